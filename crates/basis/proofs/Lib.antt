@@ -1,0 +1,5 @@
+-- Laws of the shared definitions, over the index, the width and the count.
+pub mod Choice
+pub mod Sums
+pub mod Tables
+pub mod Numbers
