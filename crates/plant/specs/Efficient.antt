@@ -1,0 +1,46 @@
+-- The efficient offer ("Efficient offer", 2.2.1 c, 2.2.2).
+use mathlib.Core.Bool.{Bool, true}
+use mathlib.Core.List.{List}
+use Prim.Native.Nat.{ℕ, _/_, _%_}
+use lib.Dec.{leb, eqb}
+use lib.ListN.{getD}
+use Rattle.basis.specs.Choice.{pick}
+use Rattle.basis.specs.Sums.{sumUp}
+use Rattle.basis.specs.Tables.{tab}
+use Rattle.plant.specs.declared.efficient.Efficient.{Efficient}
+
+-- units are 1 to 48
+abbrev pub units : ℕ
+units = 48
+
+-- the flag stands in the flags: 1 and 2 used in the first and second simulated year, 4 forced generation persists
+abbrev pub flagged : ℕ → ℕ → Bool
+flagged flag flags = eqb (flags / flag % 2) 1
+
+-- what a unit adds to a year's sum: its offer, if used in that year, whose flag is its number
+abbrev pub counted : ℕ → ℕ → ℕ → ℕ
+counted year flags offer = pick (flagged year flags) offer 0
+
+-- the sum of the offers of the units used in a year
+unfoldable pub yearSum : ℕ → ℕ → List ℕ → List ℕ → ℕ
+yearSum n year flags offers = sumUp (λ i. counted year (getD flags i 0) (getD offers i 0)) n
+
+-- the year of the greater sum, of a tie the first
+abbrev pub chosenYear : ℕ → List ℕ → List ℕ → ℕ
+chosenYear n flags offers = pick (leb (yearSum n 2 flags offers) (yearSum n 1 flags offers)) 1 2
+
+-- its offer, if used in that year or flagged 4, else 0
+abbrev pub efficientOffer : ℕ → ℕ → ℕ → ℕ
+efficientOffer year flags offer = pick (pick (flagged year flags) true (flagged 4 flags)) offer 0
+
+-- the efficient offers of n units, once the year is chosen
+unfoldable pub efficientOffers : ℕ → ℕ → List ℕ → List ℕ → List ℕ
+efficientOffers n year flags offers = tab (λ i. efficientOffer year (getD flags i 0) (getD offers i 0)) n
+
+-- the year chosen and the efficient offers of n units
+abbrev pub efficientOf : ℕ → List ℕ → List ℕ → Efficient
+efficientOf n flags offers =
+    record {
+      year = chosenYear n flags offers;
+      offers = efficientOffers n (chosenYear n flags offers) flags offers;
+    }

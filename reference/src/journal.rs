@@ -1,0 +1,52 @@
+//! The run over a journal.
+
+use crate::book::Book;
+use crate::number::{reply, Number};
+use crate::record;
+
+/// 01 "Journal records": what the run returns.
+#[derive(Clone, Debug, PartialEq, Eq)]
+pub struct Run {
+    pub book: Book,
+    pub read: u64,
+    pub accepted: u64,
+    pub refused: u64,
+    /// The number of the stop, none without a stop.
+    pub stop: Option<Number>,
+    /// The place of the stop, the journal's length without one.
+    pub place: usize,
+    /// The place of one refused record if there is any.
+    pub refused_place: Option<usize>,
+}
+
+/// 01 "Journal records": the run from a fresh book.
+pub fn run(journal: &[u8]) -> Run {
+    run_with(journal, |_, _| {})
+}
+
+/// 01 "Journal records": the run from a fresh book, showing each record's place and the reply to its call.
+pub fn run_with(journal: &[u8], mut show: impl FnMut(usize, u8)) -> Run {
+    let mut run =
+        Run { book: Book::default(), read: 0, accepted: 0, refused: 0, stop: None, place: 0, refused_place: None };
+    while run.place < journal.len() {
+        let (call, next) = match record::read(journal, run.place) {
+            Ok(record) => record,
+            Err(number) => {
+                run.stop = Some(number);
+                break;
+            }
+        };
+        let result = run.book.apply(&call);
+        run.read += 1;
+        match result {
+            Ok(()) => run.accepted += 1,
+            Err(_) => {
+                run.refused += 1;
+                run.refused_place = Some(run.place);
+            }
+        }
+        show(run.place, reply(result));
+        run.place = next;
+    }
+    run
+}

@@ -1,0 +1,157 @@
+//! Seeded random journals.
+
+mod calls;
+mod draft;
+mod draw;
+mod faults;
+mod season;
+
+use std::fs;
+use std::io;
+use std::path::Path;
+
+use crate::call::{Call, Year, FORMS};
+use crate::listing::MOST_BYTES;
+use draft::Draft;
+use draw::Draw;
+
+/// Writes `count` journals of a seed into a folder, numbered from 00000.
+pub fn write_journals(seed: u64, count: u64, folder: &Path) -> io::Result<()> {
+    fs::create_dir_all(folder)?;
+    for number in 0..count {
+        fs::write(folder.join(format!("{number:05}.journal")), journal(seed, number))?;
+    }
+    Ok(())
+}
+
+/// One journal of a seed: a whole season, one cut or damaged, one about the program's limit, or calls in any order.
+pub fn journal(seed: u64, number: u64) -> Vec<u8> {
+    let mut draft = Draft::new(Draw::new(seed, number));
+    match draft.draw.between(0, 999) {
+        0..=819 => season(&mut draft),
+        820..=879 => {
+            season(&mut draft);
+            cut(&mut draft);
+        }
+        880..=949 => {
+            season(&mut draft);
+            damage(&mut draft);
+        }
+        950..=959 => at_the_limit(&mut draft),
+        _ => any_order(&mut draft),
+    }
+    draft.journal
+}
+
+/// 01 "The book": the stages in their order, and some calls behind the close.
+fn season(draft: &mut Draft) {
+    season::open(draft);
+    season::gather(draft, MOST_BYTES / 2);
+    season::fix(draft);
+    let steps = draft.draw.pick(&[0, 3, 8, 8, 20, 60]);
+    season::contract(draft, steps, MOST_BYTES);
+    season::close(draft);
+    if draft.draw.chance(20) {
+        for _ in 0..draft.draw.between(1, 4) {
+            let record = draft.any_record();
+            draft.put_record(&record);
+        }
+    }
+}
+
+/// 01 "Numbered replies", 1: the journal up to any of its bytes.
+fn cut(draft: &mut Draft) {
+    let length = draft.draw.between(0, draft.journal.len() as u64) as usize;
+    draft.journal.truncate(length);
+}
+
+/// 01 "Numbered replies", 2: some bytes changed, put in or put behind.
+fn damage(draft: &mut Draft) {
+    let Draft { draw, journal, .. } = draft;
+    let place = draw.between(0, journal.len() as u64 - 1) as usize;
+    let garbage: Vec<u8> = (0..draw.between(1, 40)).map(|_| draw.next() as u8).collect();
+    match draw.between(0, 5) {
+        0 => journal[place] = draw.next() as u8,
+        1 => journal[place] ^= 1 << draw.between(0, 7),
+        2 => journal.extend_from_slice(&garbage),
+        3 => {
+            journal.splice(place..place, garbage);
+        }
+        4 => {
+            let foreign: [u8; 2] = draw.pick(&[*b"AT", *b"dm", *b"YG", *b"LV", *b"TP", *b"yr", *b"RY", *b"\0\0"]);
+            journal.extend_from_slice(&foreign);
+            journal.extend_from_slice(&garbage);
+        }
+        _ => {
+            let mark = FORMS[draw.between(0, 9) as usize].mark;
+            *journal = [&mark[..], &garbage].concat();
+        }
+    }
+}
+
+/// 01 "Journal in, listing out": a journal of about 65,536 bytes, or of one byte more.
+fn at_the_limit(draft: &mut Draft) {
+    let length = draft.draw.pick(&[MOST_BYTES - 1, MOST_BYTES, MOST_BYTES, MOST_BYTES + 1, MOST_BYTES - 300]);
+    draft.style.units = draft.style.units.max(3);
+    season::open(draft);
+    season::gather(draft, length / 2);
+    if draft.draw.chance(60) {
+        season::fill_with_tests(draft, length * 3 / 4);
+    }
+    season::fix(draft);
+    season::contract(draft, u64::MAX, length - 8_000);
+    season::close(draft);
+    pad(draft, length);
+}
+
+/// 01 "Journal records": closes of 4 bytes and years of 7 bytes up to a length.
+fn pad(draft: &mut Draft, length: usize) {
+    while draft.journal.len() < length {
+        let missing = length - draft.journal.len();
+        if missing.is_multiple_of(4) {
+            draft.put(&Call::Close(890));
+        } else {
+            draft.put(&Call::Year(Year { nhrm: 720, nhmd: 120, ndhmd: 4 }));
+        }
+    }
+}
+
+/// 01 "The list of demand 3": calls in any order and number.
+fn any_order(draft: &mut Draft) {
+    for _ in 0..draft.draw.between(0, 120) {
+        let record = draft.any_record();
+        draft.put_record(&record);
+        if draft.draw.chance(20) {
+            faults::fault(draft);
+        }
+    }
+}
+
+#[cfg(test)]
+mod tests {
+    use super::*;
+    use crate::book::Stage;
+    use crate::journal::run_with;
+
+    #[test]
+    fn a_seed_and_a_number_give_one_journal() {
+        assert_eq!(journal(7, 3), journal(7, 3));
+        assert_ne!(journal(7, 3), journal(7, 4));
+        assert_ne!(journal(7, 3), journal(8, 3));
+    }
+
+    #[test]
+    fn every_number_of_a_journal_occurs_and_most_journals_close() {
+        let mut met = [0; 15];
+        let mut closed = 0;
+        for number in 0..600 {
+            let run = run_with(&journal(1, number), |_, reply| met[usize::from(reply)] += 1);
+            if let Some(stop) = run.stop {
+                met[stop as usize] += 1;
+            }
+            closed += u32::from(run.book.stage == Stage::Closed);
+        }
+        assert!(met.iter().all(|&times| times >= 5), "{met:?}");
+        assert!(closed > 450);
+    }
+}
