@@ -1,0 +1,18 @@
+-- `book::calls::availability` meets its contract. Assumes nothing.
+use borrow.Author.Needs.{needs}
+use Rattle.book.specs.Step.{stepOf}
+use Rattle.book.proofs.calls.availability.Statement.{statement}
+use Rattle.book.proofs.calls.availability.Tie as tie
+
+slice-aggregate-step : tie.Need-slice-aggregate-step
+slice-aggregate-step c = search needs
+
+step-requires : tie.Need-step-requires
+step-requires c κs = search needs
+
+returns : tie.Need-returns
+unfolding stepOf
+returns c = c .step .ensures
+
+pub availability-spec : {M : Type 1} → statement M
+availability-spec = tie.close (tie.spec slice-aggregate-step step-requires returns)

@@ -1,0 +1,18 @@
+-- `book::calls::unit` meets its contract. Assumes nothing.
+use borrow.Author.Needs.{needs}
+use Rattle.book.specs.Step.{stepOf}
+use Rattle.book.proofs.calls.unit.Statement.{statement}
+use Rattle.book.proofs.calls.unit.Tie as tie
+
+slice-aggregate-step : tie.Need-slice-aggregate-step
+slice-aggregate-step c = search needs
+
+step-requires : tie.Need-step-requires
+step-requires c κs = search needs
+
+returns : tie.Need-returns
+unfolding stepOf
+returns c = c .step .ensures
+
+pub unit-spec : {M : Type 1} → statement M
+unit-spec = tie.close (tie.spec slice-aggregate-step step-requires returns)

@@ -1,0 +1,20 @@
+-- `book::gathering::fix_change` meets its contract. Assumes nothing.
+use borrow.Author.Needs.{needs}
+use borrow.Author.Tests.{ne-eqb}
+use Rattle.book.specs.Changes.{fixChange}
+use Rattle.book.proofs.gathering.fix_change.Statement.{statement}
+use Rattle.book.proofs.gathering.fix_change.Tie as tie
+
+stage-number-requires : tie.Need-stage-number-requires
+stage-number-requires c κs = search needs
+
+returns : tie.Need-returns
+unfolding fixChange
+returns c = simp (← c .before .stage-number .ensures, ne-eqb _ _ (c .if1 .taken))
+
+returns-2 : tie.Need-returns-2
+unfolding fixChange
+returns-2 c = simp (← c .before .stage-number .ensures, c .if1 .left)
+
+pub fix-change-spec : {M : Type 1} → statement M
+fix-change-spec = tie.close (tie.spec stage-number-requires returns returns-2)

@@ -1,0 +1,34 @@
+-- `book::places::contract_places` meets its contract. Assumes nothing.
+use native.Mathlib.Omega.{arith}
+use borrow.Author.Needs.{needs}
+use Rattle.record.specs.Forms.{producers, consumers}
+use Rattle.book.proofs.Placed.{place-below}
+use Rattle.book.proofs.places.contract_places.Statement.{statement}
+use Rattle.book.proofs.places.contract_places.Tie as tie
+
+place-of-requires : tie.Need-place-of-requires
+place-of-requires c κs = search needs
+
+place-of-requires-2 : tie.Need-place-of-requires-2
+place-of-requires-2 c κs = search needs
+
+mul-t5 : tie.Need-mul-t5
+mul-t5 c =
+    let a = c .before .before .args in
+    let i = place-below producers (a .producer) (omega arith) in
+    let j = place-below consumers (a .consumer) (omega arith) in
+    omega (arith, c .place-of2 .ensures, c .before .place-of .ensures)
+
+add-t6 : tie.Need-add-t6
+add-t6 c =
+    let a = c .before .before .args in
+    let i = place-below producers (a .producer) (omega arith) in
+    let j = place-below consumers (a .consumer) (omega arith) in
+    omega (arith, c .place-of2 .ensures, c .before .place-of .ensures)
+
+returns : tie.Need-returns
+returns c = simp (c .place-of2 .ensures, c .before .place-of .ensures)
+
+pub contract-places-spec : {M : Type 1} → statement M
+contract-places-spec =
+    tie.close (tie.spec place-of-requires place-of-requires-2 mul-t5 add-t6 returns)

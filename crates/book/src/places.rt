@@ -1,0 +1,80 @@
+// Where a call's unit, consumer and balance stand in the book.
+ghost use mathlib.Core.Path.{_≡_};
+ghost use Rattle.book.specs.Changes.{placeOf, contractPlaces, Placed};
+use crate::changes::Places;
+use crate::state::CONSUMERS;
+use crate::state::PRODUCERS;
+use plant::UNITS;
+use record::Call;
+
+const NOWHERE: Places = Places {
+    cell: 0,
+    consumer: 0,
+    unit: 0,
+};
+
+// The place of a number from 1 on, 0 where it is out of range.
+fn place_of(greatest: usize, number: u32) -> usize
+    ensures { λ r. ⌜ r ≡ placeOf greatest number ⌝ }
+{
+    let n = number as usize;
+    if n == 0 {
+        return 0;
+    }
+    if greatest < n {
+        return 0;
+    }
+    n - 1
+}
+
+// The places of a producer's balance with a consumer.
+fn contract_places(producer: u32, consumer: u32) -> Places
+    ensures { λ r. ⌜ r ≡ contractPlaces producer consumer ⌝ }
+{
+    let column = place_of(CONSUMERS, consumer);
+    Places {
+        cell: place_of(PRODUCERS, producer) * CONSUMERS + column,
+        consumer: column,
+        unit: 0,
+    }
+}
+
+pub fn places_of(call: Call) -> Places
+    ensures { λ r. ⌜ Placed call r ⌝ }
+{
+    match call {
+        Call::Year { .. } => NOWHERE,
+        Call::Unit { unit, .. } => Places {
+            unit: place_of(UNITS, unit),
+            ..NOWHERE
+        },
+        Call::Test { unit, .. } => Places {
+            unit: place_of(UNITS, unit),
+            ..NOWHERE
+        },
+        Call::Availability { unit, .. } => Places {
+            unit: place_of(UNITS, unit),
+            ..NOWHERE
+        },
+        Call::Declare { consumer, .. } => Places {
+            consumer: place_of(CONSUMERS, consumer),
+            ..NOWHERE
+        },
+        Call::Fix { .. } => NOWHERE,
+        Call::Commit {
+            producer,
+            consumer,
+            ..
+        } => contract_places(producer, consumer),
+        Call::Release {
+            producer,
+            consumer,
+            ..
+        } => contract_places(producer, consumer),
+        Call::Meter { consumer, .. } => Places {
+            consumer: place_of(CONSUMERS, consumer),
+            ..NOWHERE
+        },
+        Call::Close { .. } => NOWHERE,
+    }
+}

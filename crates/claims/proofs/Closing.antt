@@ -1,0 +1,219 @@
+-- An accepted close keeps what is kept.
+use mathlib.Core.Path.{_≡_, refl, sym, ap, _∙_}
+use mathlib.Core.Bool.{Bool, true, false}
+use mathlib.Core.List.{List, [], _∷_, map}
+use mathlib.Core.Logic.{_⊎_, inl, inr}
+use Prim.Native.Nat.{ℕ, zero, suc, _+_, _-_, _*_, _/_, _≤_, _<_, zero-le}
+use native.Mathlib.Nat.{mul-le-mul, mul-le-mul-right, le-trans, le-refl}
+use native.Mathlib.Omega.{arith}
+use borrow.Author.Tests.{le-ltb, ne-eqb, eq-eqb, eqb-true, eqb-false}
+use lib.Dec.{eqb, ltb, lit≤}
+use lib.ListN.{length, getD, length-map}
+use Rattle.basis.specs.Choice.{pick}
+use Rattle.basis.specs.Sums.{sum, allAtMost}
+use Rattle.basis.specs.Tables.{tab}
+use Rattle.basis.proofs.Choice.{peel-not}
+use Rattle.basis.proofs.Sums.{sum-at-most, all-at-most, at-most-all}
+use Rattle.basis.proofs.Tables.{length-tab, getD-tab}
+use Rattle.share.specs.Division.{divisionNumber}
+use Rattle.share.specs.Limits.{greatestTotal, greatestWeight, mostWeights}
+use Rattle.share.proofs.Accepted.{Accepted, enough}
+use Rattle.plant.specs.Ranges.{greatestPower}
+use Rattle.record.specs.Calls.{partsOf}
+use Rattle.record.specs.Forms.{formOf, consumers}
+use Rattle.record.specs.declared.calls.Call.the-variants as call
+use Rattle.record.specs.declared.forms.Mark.the-variants as mark
+use Rattle.book.specs.declared.state.Stage.the-variants.{Firm, Closed}
+use Rattle.book.specs.declared.state.Declaration.{Declaration}
+use Rattle.book.specs.declared.state.Declaration.the-variants.{Undeclared, Declared}
+use Rattle.book.specs.declared.state.Consumer.{Consumer}
+use Rattle.book.specs.declared.state.Book.{Book}
+use Rattle.book.specs.Fix.{weightsOf}
+use Rattle.book.specs.Close.{adjustedOf, adjustedIn, surplusBy, chargeBy, surplusesIn, chargesIn, creditsOf, undistributedOf, closeNumber, closed}
+use Rattle.book.specs.Lists.{Event}
+use Rattle.claims.specs.History.{Last, never, last, isA, fieldIn, lastThat, begunIn, fixedIn, closedIn, dmpIn, priceIn, declaredIn}
+use Rattle.claims.specs.Figures.{demandIn, declarationBy, consumerIn, consumersIn, adjustedDemandsIn, positiveAdjustmentsIn, allChargesIn, allCreditsIn, undistributedIn}
+use Rattle.claims.proofs.Tables.{map-tab}
+use Rattle.claims.proofs.Ranges.{field-in-range}
+use Rattle.claims.proofs.Other.{last-this, hours-kept, dmp-kept, consumers-kept}
+use Rattle.claims.proofs.Kept.{firm-is, Passed, passed, Money, Kept}
+use Rattle.claims.proofs.Others.{plants-other, people-other, contracts-other, firm-other}
+use Rattle.claims.proofs.Demands.{demand-at-most}
+
+module _ {A : Type 0} where
+  -- a list mapped, at a place; past the end of both
+  mapped-at-most : (g : A → ℕ) (l : List A) (m : ℕ) → ((i : ℕ) → i < length l → (d : A) → g (getD l i d) ≤ m) → (i : ℕ) → getD (map g l) i 0 ≤ m
+  mapped-at-most g [] m h i = zero-le
+  mapped-at-most g (x ∷ l) m h zero = h 0 (omega arith) x
+  mapped-at-most g (x ∷ l) m h (suc i) = mapped-at-most g l m (λ j p d. h (suc j) (omega arith) d) i
+
+-- a charge is bounded by its adjustment and the price
+charge-at-most : (p dfa : ℕ) (d : Declaration) → dfa ≤ greatestPower → p ≤ 2500 → chargeBy p dfa d ≤ 90000000000
+charge-at-most p dfa Undeclared a b = zero-le
+charge-at-most p dfa (Declared f) a b = go (ltb (100 * f .d) (98 * f .a))
+  where
+    go : (t : Bool) → pick t ((dfa - f .df) * p * 12) 0 ≤ 90000000000
+    go true =
+        let m = mul-le-mul {n₁ = dfa - f .df} {m₁ = p} {n₂ = greatestPower} {m₂ = 2500} (omega arith) b in omega arith
+    go false = zero-le
+
+surplus-at-most : (dfa df m : ℕ) (l : Last) → df ≤ m → surplusBy dfa (declarationBy df l) ≤ m
+surplus-at-most dfa df m never h = zero-le
+surplus-at-most dfa df m (last e) h = omega arith
+
+module _ (h : List Event) (b : Book) (k : Kept h b) (p : ℕ) (readings : List ℕ) (z : closeNumber b p ≡ 0) where
+  abbrev close : Event
+  close = record { call = call.Close p; readings = readings }
+
+  abbrev allowed : ℕ
+  allowed = pick (allAtMost greatestPower (adjustedIn (b .dmp) (b .consumers))) 0 14
+
+  shown : Passed (call.Close p) [] Firm (b .stage) allowed
+  unfolding closeNumber
+  shown = passed (call.Close p) [] Firm (b .stage) allowed z
+
+  price-range : (1 ≤ p) × (p ≤ 2500)
+  unfolding partsOf formOf
+  price-range = field-in-range (call.Close p) [] (shown .range) 0 (omega arith) (omega arith) (omega arith)
+
+  was-firm : (closedIn h ≡ false) × (fixedIn h ≡ true)
+  was-firm = firm-is (closedIn h) (fixedIn h) (begunIn h) (sym (k .timing .stage-kept) ∙ shown .stage)
+
+  this : lastThat (isA mark.Close) (close ∷ h) ≡ last close
+  unfolding partsOf formOf
+  this = last-this close h (isA mark.Close) refl
+
+  now-price : priceIn (close ∷ h) ≡ p
+  unfolding partsOf
+  now-price = rw this refl
+
+  same-dmp : dmpIn (close ∷ h) ≡ dmpIn h
+  unfolding partsOf formOf
+  same-dmp = dmp-kept close h refl
+
+  same-consumers : consumersIn (close ∷ h) ≡ consumersIn h
+  unfolding partsOf formOf
+  same-consumers = consumers-kept close h refl refl refl
+
+  dmp-was : b .dmp ≡ dmpIn (close ∷ h)
+  dmp-was = k .timing .dmp-kept ∙ sym same-dmp
+
+  consumers-were : b .consumers ≡ consumersIn (close ∷ h)
+  consumers-were = k .people .consumers-kept ∙ sym same-consumers
+
+  adjusted-now : adjustedIn (b .dmp) (b .consumers) ≡ adjustedDemandsIn (close ∷ h)
+  unfolding adjustedDemandsIn
+  adjusted-now = ap (λ d. adjustedIn d (b .consumers)) dmp-was ∙ ap (adjustedIn (dmpIn (close ∷ h))) consumers-were
+
+  surpluses-now : surplusesIn (b .dmp) (b .consumers) ≡ positiveAdjustmentsIn (close ∷ h)
+  unfolding positiveAdjustmentsIn
+  surpluses-now = ap (λ d. surplusesIn d (b .consumers)) dmp-was ∙ ap (surplusesIn (dmpIn (close ∷ h))) consumers-were
+
+  charges-now : chargesIn p (b .dmp) (b .consumers) ≡ allChargesIn (close ∷ h)
+  unfolding allChargesIn
+  charges-now =
+      ap (λ d. chargesIn p d (b .consumers)) dmp-was
+      ∙ ap (chargesIn p (dmpIn (close ∷ h))) consumers-were
+      ∙ ap (λ r. chargesIn r (dmpIn (close ∷ h)) (consumersIn (close ∷ h))) (sym now-price)
+
+  credits-now : creditsOf (sum (chargesIn p (b .dmp) (b .consumers))) (surplusesIn (b .dmp) (b .consumers)) ≡ allCreditsIn (close ∷ h)
+  unfolding allCreditsIn
+  credits-now =
+      ap (λ c. creditsOf (sum c) (surplusesIn (b .dmp) (b .consumers))) charges-now
+      ∙ ap (creditsOf (sum (allChargesIn (close ∷ h)))) surpluses-now
+
+  undistributed-now : undistributedOf (sum (chargesIn p (b .dmp) (b .consumers))) (surplusesIn (b .dmp) (b .consumers)) ≡ undistributedIn (close ∷ h)
+  unfolding undistributedIn
+  undistributed-now =
+      ap (λ c. undistributedOf (sum c) (surplusesIn (b .dmp) (b .consumers))) charges-now
+      ∙ ap (undistributedOf (sum (allChargesIn (close ∷ h)))) surpluses-now
+
+  -- every adjusted demand is within the range
+  adjusted-small : allAtMost greatestPower (adjustedIn (b .dmp) (b .consumers)) ≡ true
+  adjusted-small = peel-not (allAtMost greatestPower (adjustedIn (b .dmp) (b .consumers))) 13 0 (shown .rest) .0
+
+  count : length (b .consumers) ≡ consumers
+  unfolding consumersIn
+  count = ap length (k .people .consumers-kept) ∙ length-tab (λ i. consumerIn h (suc i)) consumers
+
+  one-adjusted : (i : ℕ) → i < length (b .consumers) → (d : Consumer) → adjustedOf (b .dmp) (sum (weightsOf (b .consumers))) (getD (b .consumers) i d) ≤ greatestPower
+  unfolding adjustedIn
+  one-adjusted i q d =
+      at (b .consumers) i q (λ j. all-at-most greatestPower (map (adjustedOf (b .dmp) (sum (weightsOf (b .consumers)))) (b .consumers)) adjusted-small j)
+    where
+      at : (xs : List Consumer) (j : ℕ) → j < length xs → ((n : ℕ) → getD (map (adjustedOf (b .dmp) (sum (weightsOf (b .consumers)))) xs) n 0 ≤ greatestPower) → adjustedOf (b .dmp) (sum (weightsOf (b .consumers))) (getD xs j d) ≤ greatestPower
+      at [] j r w = absurd (omega arith)
+      at (x ∷ xs) zero r w = w 0
+      at (x ∷ xs) (suc j) r w = at xs j (omega arith) (λ n. w (suc n))
+
+  charge-small : (i : ℕ) → getD (chargesIn p (b .dmp) (b .consumers)) i 0 ≤ 90000000000
+  unfolding chargesIn
+  charge-small =
+      mapped-at-most (λ (x : Consumer). chargeBy p (adjustedOf (b .dmp) (sum (weightsOf (b .consumers))) x) (x .declaration)) (b .consumers) 90000000000
+      (λ i q d. charge-at-most p (adjustedOf (b .dmp) (sum (weightsOf (b .consumers))) (getD (b .consumers) i d)) (getD (b .consumers) i d .declaration) (one-adjusted i q d) (price-range .1))
+
+  charges-small : sum (chargesIn p (b .dmp) (b .consumers)) ≤ greatestTotal
+  unfolding chargesIn
+  charges-small =
+      let n : length (chargesIn p (b .dmp) (b .consumers)) ≡ consumers = length-map (b .consumers) (λ (x : Consumer). chargeBy p (adjustedOf (b .dmp) (sum (weightsOf (b .consumers))) x) (x .declaration)) ∙ count in
+      omega (arith, sum-at-most 90000000000 (chargesIn p (b .dmp) (b .consumers)) charge-small, ap (λ m. m * 90000000000) n)
+
+  demand-small : (i : ℕ) → i < length (b .consumers) → (d : Consumer) → (dfa : ℕ) → surplusBy dfa (getD (b .consumers) i d .declaration) ≤ greatestWeight
+  unfolding consumersIn
+  demand-small i q d dfa =
+      let e : getD (b .consumers) i d ≡ consumerIn h (suc i) =
+      ap (λ xs. getD xs i d) (k .people .consumers-kept) ∙ getD-tab (λ j. consumerIn h (suc j)) consumers i d (omega (arith, count)) in
+      let m : demandIn h (suc i) ≤ dmpIn h = demand-at-most h (was-firm .1) (k .firm .shared (was-firm .1)) i in
+      rw e (surplus-at-most dfa (demandIn h (suc i)) greatestWeight (declaredIn h (suc i)) (omega (arith, m, k .firm .dmp-small)))
+
+  surplus-small : allAtMost greatestWeight (surplusesIn (b .dmp) (b .consumers)) ≡ true
+  unfolding surplusesIn
+  surplus-small =
+      at-most-all greatestWeight (surplusesIn (b .dmp) (b .consumers))
+      (λ j r. mapped-at-most (λ (x : Consumer). surplusBy (adjustedOf (b .dmp) (sum (weightsOf (b .consumers))) x) (x .declaration)) (b .consumers) greatestWeight (λ i q d. demand-small i q d (adjustedOf (b .dmp) (sum (weightsOf (b .consumers))) (getD (b .consumers) i d))) j)
+
+  length-surpluses : length (surplusesIn (b .dmp) (b .consumers)) ≡ consumers
+  unfolding surplusesIn
+  length-surpluses = length-map (b .consumers) (λ (x : Consumer). surplusBy (adjustedOf (b .dmp) (sum (weightsOf (b .consumers))) x) (x .declaration)) ∙ count
+
+  -- the division of the charges is in range, unless there is nothing to divide by
+  divides : (s : ℕ) → sum (surplusesIn (b .dmp) (b .consumers)) ≡ s → (divisionNumber (sum (chargesIn p (b .dmp) (b .consumers))) (surplusesIn (b .dmp) (b .consumers)) consumers ≡ 0) ⊎ (sum (surplusesIn (b .dmp) (b .consumers)) ≡ 0)
+  divides zero q = inr q
+  divides (suc s) q =
+      inl
+      (enough (sum (chargesIn p (b .dmp) (b .consumers))) (surplusesIn (b .dmp) (b .consumers)) consumers consumers
+      (record {
+        total = charges-small;
+        some = omega (arith, length-surpluses);
+        most = omega (arith, length-surpluses);
+        weights = surplus-small;
+        positive = omega (arith, q);
+        fits = omega (arith, length-surpluses);
+      })
+      (omega (arith, length-surpluses)))
+
+  pub close-kept : Kept (close ∷ h) (closed b p)
+  unfolding closed partsOf formOf
+  close-kept =
+      record {
+        timing =
+            record {
+              stage-kept = sym (rw this refl);
+              hours-kept = k .timing .hours-kept ∙ sym (hours-kept close h refl);
+              dmp-kept = dmp-was;
+            };
+        plants = plants-other close h (b .units) refl refl refl (k .plants);
+        people = people-other close h (b .consumers) refl refl refl (k .people);
+        contracts = contracts-other close h (b .balances) (b .limits) refl refl refl (k .contracts);
+        firm = firm-other close h (b .offers) (b .efficient) (b .limits) refl refl refl refl refl refl (k .firm);
+        money =
+            record {
+              adjusted-kept = λ q. adjusted-now;
+              charges-kept = λ q. charges-now;
+              credits-kept = λ q. credits-now;
+              charged-kept = λ q. refl;
+              credited-kept = λ q. refl;
+              undistributed-kept = λ q. undistributed-now;
+              divided = λ q. rw (← charges-now, ← surpluses-now) (divides (sum (surplusesIn (b .dmp) (b .consumers))) refl);
+            };
+      }

@@ -1,0 +1,5 @@
+-- What is claimed of the book, and the figures of a history of accepted calls.
+pub mod History
+pub mod Figures
+pub mod Demand
+pub mod Refusals

@@ -1,0 +1,68 @@
+-- `record::calls::call_of` meets its contract: each arm by the definition's own clause.
+-- Assumes nothing.
+use borrow.Author.Needs.{needs}
+use Rattle.record.specs.Calls.{callOf}
+use Rattle.record.proofs.calls.call_of.Statement.{statement}
+use Rattle.record.proofs.calls.call_of.Tie as tie
+
+pub call-of-spec : {M : Type 1} → statement M
+unfolding callOf
+call-of-spec =
+    tie.close
+    (tie.spec
+    (λ c. search needs)
+    (λ c. search needs)
+    (λ c. search needs)
+    (λ c. search needs)
+    (λ c. search needs)
+    (λ c. search needs)
+    (λ c. search needs)
+    (λ c. search needs)
+    (λ c. search needs)
+    (λ c. search needs)
+    (λ c. search needs)
+    (λ c. search needs)
+    (λ c. search needs)
+    (λ c. search needs)
+    (λ c. search needs)
+    (λ c. search needs)
+    (λ c. search needs)
+    (λ c. search needs)
+    (λ c. search needs)
+    (λ c. search needs)
+    (λ c. search needs)
+    (λ c. search needs)
+    (λ c. search needs)
+    (λ c. search needs)
+    (λ c. search needs)
+    (λ c. search needs)
+    (λ c. search needs)
+    (λ c. search needs)
+    (λ c. search needs)
+    (λ c. search needs)
+    (λ c. search needs)
+    (λ c. search needs)
+    (λ c. search needs)
+    (λ c. search needs)
+    (λ c. search needs)
+    (λ c. search needs)
+    (λ c. search needs)
+    (λ c. search needs)
+    (λ c. search needs)
+    (λ c. search needs)
+    (λ c. search needs)
+    (λ c. search needs)
+    (λ c. search needs)
+    (λ c. search needs)
+    (λ c. search needs)
+    (λ c. search needs)
+    (λ c. rw (c .enum-told .given .1))
+    (λ c. rw (c .enum-told2 .given .1))
+    (λ c. rw (c .enum-told3 .given .1))
+    (λ c. rw (c .enum-told4 .given .1))
+    (λ c. rw (c .enum-told5 .given .1))
+    (λ c. rw (c .enum-told6 .given .1))
+    (λ c. rw (c .enum-told7 .given .1))
+    (λ c. rw (c .enum-told8 .given .1))
+    (λ c. rw (c .enum-told9 .given .1))
+    (λ c. rw (c .enum-told10 .given .1)))

@@ -1,0 +1,63 @@
+-- Number 3: the ranges of a call's fields, and of the readings lent with a test ("Journal records", "Numbered replies").
+use mathlib.Core.Bool.{Bool, true, false}
+use mathlib.Core.List.{List}
+use Prim.Native.Nat.{ℕ, _/_, _%_}
+use lib.Dec.{eqb}
+use Rattle.basis.specs.Choice.{pick, between}
+use Rattle.plant.specs.Ranges.{testInRange}
+use Rattle.record.specs.Calls.{partsOf}
+use Rattle.record.specs.Fields.{withinAll}
+use Rattle.record.specs.Forms.{formOf}
+use Rattle.record.specs.declared.calls.Call.{Call}
+use Rattle.record.specs.declared.calls.Call.the-variants.{Year, Unit, Test, Availability, Declare, Fix, Commit, Release, Meter, Close}
+use Rattle.record.specs.declared.ranges.Uses.{Uses}
+
+-- flag 16 serves kinds 1 and 2, PPR kind 2, E1 kinds 3 to 8, E2 and CAP kind 8
+unfoldable pub usesOf : ℕ → Uses
+usesOf kind =
+    record {
+      report = between 1 2 kind;
+      ppr = eqb kind 2;
+      e1 = between 3 8 kind;
+      e2 = eqb kind 8;
+      cap = eqb kind 8;
+    }
+
+-- a field that is not used is 0
+abbrev pub zeroUnless : Bool → ℕ → Bool
+zeroUnless used x = pick used true (eqb x 0)
+
+-- the flags and fields of a unit that its kind and flags do not use are 0; flag 8 says that PIC is given
+unfoldable pub unusedZero : Uses → ℕ → ℕ → ℕ → ℕ → ℕ → ℕ → Bool
+unusedZero used flags pic ppr e1 e2 cap =
+    pick (zeroUnless (used .report) (flags / 16 % 2))
+    (pick (zeroUnless (eqb (flags / 8 % 2) 1) pic)
+    (pick (zeroUnless (used .ppr) ppr)
+    (pick (zeroUnless (used .e1) e1)
+    (pick (zeroUnless (used .e2) e2) (zeroUnless (used .cap) cap) false)
+    false)
+    false)
+    false)
+    false
+
+-- what the ranges of single fields leave; what is lent with a call other than a test is ignored
+unfoldable pub restInRange : Call → List ℕ → Bool
+restInRange (Year nhrm nhmd ndhmd) readings = true
+restInRange (Unit unit producer kind flags pic ppr e1 e2 cap) readings = unusedZero (usesOf kind) flags pic ppr e1 e2 cap
+restInRange (Test unit component ending tc count) readings = testInRange ending tc count readings
+restInRange (Availability unit component hd hmp hif hed) readings = true
+restInRange (Declare consumer d a) readings = true
+restInRange (Fix dmp) readings = true
+restInRange (Commit producer consumer q) readings = true
+restInRange (Release producer consumer q) readings = true
+restInRange (Meter consumer dreal) readings = true
+restInRange (Close p) readings = true
+
+-- each field of the call stands in the range of the table
+abbrev pub fieldsInRange : Call → Bool
+fieldsInRange c =
+    withinAll (formOf (partsOf c .mark) .least) (formOf (partsOf c .mark) .greatest) (partsOf c .values)
+
+-- 3 where a field of the call, or what is lent with a test, is out of range, else 0
+unfoldable pub callNumber : Call → List ℕ → ℕ
+callNumber c readings = pick (fieldsInRange c) (pick (restInRange c readings) 0 3) 3

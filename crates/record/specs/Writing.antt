@@ -1,0 +1,42 @@
+-- Writing: number 3, then number 15, and only the record's bytes ("Journal records", "Numbered replies").
+use mathlib.Core.List.{List, [], _++_}
+use Prim.Native.Nat.{ℕ}
+use lib.Dec.{eqb, ltb}
+use lib.ListN.{length}
+use Rattle.basis.specs.Choice.{pick}
+use Rattle.basis.specs.Numbers.{bytesOf, written}
+use Rattle.record.specs.Calls.{partsOf, recordSize}
+use Rattle.record.specs.Fields.{encode}
+use Rattle.record.specs.Forms.{formOf}
+use Rattle.record.specs.Ranges.{callNumber}
+use Rattle.record.specs.declared.calls.Call.{Call}
+use Rattle.record.specs.declared.calls.Call.the-variants.{Year, Unit, Test, Availability, Declare, Fix, Commit, Release, Meter, Close}
+
+-- the readings that a call's record carries: those lent with a test, none with another call
+unfoldable pub carried : Call → List ℕ → List ℕ
+carried (Year nhrm nhmd ndhmd) readings = []
+carried (Unit unit producer kind flags pic ppr e1 e2 cap) readings = []
+carried (Test unit component ending tc count) readings = readings
+carried (Availability unit component hd hmp hif hed) readings = []
+carried (Declare consumer d a) readings = []
+carried (Fix dmp) readings = []
+carried (Commit producer consumer q) readings = []
+carried (Release producer consumer q) readings = []
+carried (Meter consumer dreal) readings = []
+carried (Close p) readings = []
+
+-- a record: the mark, the fields, the readings
+unfoldable pub recordOf : Call → List ℕ → List ℕ
+recordOf c readings =
+    bytesOf 2 (formOf (partsOf c .mark) .mark)
+    ++ (encode (formOf (partsOf c .mark) .widths) (partsOf c .values) ++ carried c readings)
+
+-- the number of writing to a buffer of n bytes
+unfoldable pub writeNumber : Call → List ℕ → ℕ → ℕ
+writeNumber c readings n =
+    pick (eqb (callNumber c readings) 0) (pick (ltb n (recordSize c)) 15 0) (callNumber c readings)
+
+-- the buffer afterwards
+unfoldable pub writtenBy : Call → List ℕ → List ℕ → List ℕ
+writtenBy c readings out =
+    pick (eqb (writeNumber c readings (length out)) 0) (written out 0 (recordOf c readings)) out

@@ -1,0 +1,135 @@
+// Number 3: the ranges of a call's fields, and of the readings lent with a test.
+ghost use mathlib.Core.Path.{_≡_};
+ghost use Rattle.record.specs.Ranges.{usesOf, zeroUnless, unusedZero, restInRange, callNumber};
+use crate::calls::Call;
+use crate::calls::parts_of;
+use crate::fields::within;
+use crate::forms::form_of;
+
+// The fields that a kind of unit uses, with the flag of its supply report.
+pub struct Uses {
+    pub report: bool,
+    pub ppr: bool,
+    pub e1: bool,
+    pub e2: bool,
+    pub cap: bool,
+}
+
+// None of them.
+const NONE: Uses = Uses {
+    report: false,
+    ppr: false,
+    e1: false,
+    e2: false,
+    cap: false,
+};
+
+// Flag 16 and the fields PPR, E1, E2 and CAP by kind.
+pub fn uses_of(kind: u32) -> Uses
+    ensures { λ r. ⌜ r ≡ usesOf kind ⌝ }
+{
+    match kind {
+        1 => Uses {
+            report: true,
+            ..NONE
+        },
+        2 => Uses {
+            report: true,
+            ppr: true,
+            ..NONE
+        },
+        3..=7 => Uses { e1: true, ..NONE },
+        8 => Uses {
+            e1: true,
+            e2: true,
+            cap: true,
+            ..NONE
+        },
+        _ => NONE,
+    }
+}
+
+// A field that is not used is 0.
+pub fn zero_unless(used: bool, value: u32) -> bool
+    ensures { λ r. ⌜ r ≡ zeroUnless used value ⌝ }
+{
+    if used {
+        return true;
+    }
+    value == 0
+}
+
+// The flags and fields of a unit that its kind and flags do not use are 0.
+pub fn unused_zero(uses: Uses, flags: u32, pic: u32, ppr: u32, e1: u32, e2: u32, cap: u32) -> bool
+    ensures { λ r. ⌜ r ≡ unusedZero uses flags pic ppr e1 e2 cap ⌝ }
+{
+    if !zero_unless(uses.report, flags / 16 % 2) {
+        return false;
+    }
+    if !zero_unless(flags / 8 % 2 == 1, pic) {
+        return false;
+    }
+    if !zero_unless(uses.ppr, ppr) {
+        return false;
+    }
+    if !zero_unless(uses.e1, e1) {
+        return false;
+    }
+    if !zero_unless(uses.e2, e2) {
+        return false;
+    }
+    zero_unless(uses.cap, cap)
+}
+
+// What the ranges of single fields leave: a unit's unused fields, and a test's lent readings.
+pub fn rest_in_range(call: Call, readings: &[u8]) -> bool
+    ensures { λ r. ⌜ r ≡ restInRange call (now (readings .entry)) ⌝ }
+{
+    match call {
+        Call::Year { .. } => true,
+        Call::Unit {
+            unit: _,
+            producer: _,
+            kind,
+            flags,
+            pic,
+            ppr,
+            e1,
+            e2,
+            cap,
+        } => unused_zero(uses_of(kind), flags, pic, ppr, e1, e2, cap),
+        Call::Test {
+            unit: _,
+            component: _,
+            ending,
+            tc,
+            count,
+        } => plant::test_in_range(ending, tc, count, readings),
+        Call::Availability { .. } => true,
+        Call::Declare { .. } => true,
+        Call::Fix { .. } => true,
+        Call::Commit { .. } => true,
+        Call::Release { .. } => true,
+        Call::Meter { .. } => true,
+        Call::Close { .. } => true,
+    }
+}
+
+// 3 where a field of the call, or what is lent with a test, is out of range, else 0.
+pub fn call_number(call: Call, readings: &[u8]) -> u32
+    ensures { λ r. ⌜ r ≡ callNumber call (now (readings .entry)) ⌝ }
+{
+    let parts = parts_of(call);
+    let mark = parts.mark;
+    let values = parts.values;
+    let form = form_of(mark);
+    let least = form.least;
+    let greatest = form.greatest;
+    if !within(least, greatest, values) {
+        return 3;
+    }
+    if !rest_in_range(call, readings) {
+        return 3;
+    }
+    0
+}

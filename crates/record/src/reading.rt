@@ -1,0 +1,91 @@
+// The reader: what stands at a place of a journal of any bytes, and the part of it that holds a test's readings.
+ghost use mathlib.Core.Path.{_≡_};
+ghost use Prim.Native.Nat.{_<_, _+_};
+ghost use lib.ListN.{length};
+ghost use Rattle.record.specs.Reading.{readMarked, readAt, stopNumber, partOf};
+use crate::calls::Call;
+use crate::calls::call_of;
+use crate::calls::readings_size;
+use crate::fields::fields_at;
+use crate::forms::Found;
+use crate::forms::Mark;
+use crate::forms::form_of;
+use crate::forms::mark_at;
+
+// What stands at a place: nothing, a record that is cut short, an unknown mark, or a whole record.
+pub enum Read {
+    End,
+    Cut,
+    Unknown,
+    // The call, the place where its readings start, and the place behind it; without readings both are the same.
+    Record {
+        call: Call,
+        readings: usize,
+        next: usize,
+    },
+}
+
+// The record of a known mark that stands at a place.
+pub fn read_marked(journal: &[u8], at: usize, mark: Mark) -> Read
+    requires { ⌜ at < length (now journal) ⌝ }
+    ensures { λ r. ⌜ r ≡ readMarked (now (journal .entry)) at mark ⌝ }
+{
+    let form = form_of(mark);
+    let size = form.size;
+    let widths = form.widths;
+    let left = journal.len() - at;
+    if left < size {
+        return Read::Cut;
+    }
+    let call = call_of(mark, fields_at(journal, at + 2, widths));
+    let length = readings_size(call);
+    if left - size < length {
+        return Read::Cut;
+    }
+    Read::Record {
+        call,
+        readings: at + size,
+        next: at + size + length,
+    }
+}
+
+// What stands at a place of a journal; any journal and any place are taken.
+pub fn read_at(journal: &[u8], at: usize) -> Read
+    ensures { λ r. ⌜ r ≡ readAt (now (journal .entry)) at ⌝ }
+{
+    if journal.len() <= at {
+        return Read::End;
+    }
+    if journal.len() - at < 2 {
+        return Read::Cut; // a mark has two bytes
+    }
+    match mark_at(basis::number_at(journal, at, 2) as u32) {
+        Found::Nothing => Read::Unknown,
+        Found::One(mark) => read_marked(journal, at, mark),
+    }
+}
+
+// The number at which the reading stops there, 0 where it does not.
+pub fn stop_number(read: Read) -> u32
+    ensures { λ r. ⌜ r ≡ stopNumber read ⌝ }
+{
+    match read {
+        Read::End => 0,
+        Read::Cut => 1,
+        Read::Unknown => 2,
+        Read::Record { .. } => 0,
+    }
+}
+
+// The part of the journal between two places, empty where there is none.
+pub fn readings_of(journal: &[u8], from: usize, to: usize) -> &[u8]
+    ensures { λ r. ⌜ now r ≡ partOf (now (journal .entry)) from to ⌝ }
+{
+    if to < from {
+        return &journal[..0];
+    }
+    if journal.len() < to {
+        return &journal[..0];
+    }
+    &journal[from..to]
+}

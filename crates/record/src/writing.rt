@@ -1,0 +1,62 @@
+// The writer: a call's record at the start of a lent buffer.
+ghost use mathlib.Core.Path.{_≡_};
+ghost use mathlib.Core.List.{_++_};
+ghost use Prim.Native.Nat.{_+_, _≤_};
+ghost use lib.ListN.{length};
+ghost use Rattle.basis.specs.Numbers.{bytesOf, written};
+ghost use Rattle.basis.specs.Sums.{sum};
+ghost use Rattle.record.specs.Calls.{recordSize};
+ghost use Rattle.record.specs.Fields.{encode};
+ghost use Rattle.record.specs.Ranges.{callNumber};
+ghost use Rattle.record.specs.Writing.{recordOf, writeNumber, writtenBy};
+use crate::calls::Call;
+use crate::calls::parts_of;
+use crate::calls::readings_size;
+use crate::calls::record_size;
+use crate::fields::put_bytes;
+use crate::fields::put_fields;
+use crate::forms::FIELDS;
+use crate::forms::Form;
+use crate::forms::form_of;
+use crate::ranges::call_number;
+
+// A mark, values in their widths and the bytes of readings, over what stands at the start of out.
+pub fn put_parts(out: &mut [u8], form: Form, values: [u32; FIELDS], readings: &[u8])
+    requires { ⌜ (form .size ≡ 2 + sum (form .widths)) × (form .size + length (now readings) ≤ length (now out)) × (length (form .widths) ≡ length values) ⌝ }
+    ensures { λ _. ⌜ now (out .exit) ≡ written (now (out .entry)) 0 (bytesOf 2 (form .mark) ++ (encode (form .widths) values ++ now (readings .entry))) ⌝ }
+{
+    let widths = form.widths;
+    let size = form.size;
+    let mark = form.mark;
+    basis::put_number(out, 0, 2, mark as u64);
+    put_fields(out, 2, widths, values);
+    put_bytes(out, size, readings);
+}
+
+// A call's record, over what stands at the start of out.
+pub fn put_record(call: Call, readings: &[u8], out: &mut [u8])
+    requires { ⌜ (callNumber call (now readings) ≡ 0) × (recordSize call ≤ length (now out)) ⌝ }
+    ensures { λ _. ⌜ now (out .exit) ≡ written (now (out .entry)) 0 (recordOf call (now (readings .entry))) ⌝ }
+{
+    let parts = parts_of(call);
+    let mark = parts.mark;
+    let values = parts.values;
+    let form = form_of(mark);
+    let length = readings_size(call);
+    put_parts(out, form, values, &readings[..length]);
+}
+
+// Number 3 or 15, with nothing written; or 0, with the record written over the start of out.
+pub fn write(call: Call, readings: &[u8], out: &mut [u8]) -> u32
+    ensures { λ r. ⌜ (r ≡ writeNumber call (now (readings .entry)) (length (now (out .entry)))) × (now (out .exit) ≡ writtenBy call (now (readings .entry)) (now (out .entry))) ⌝ }
+{
+    let number = call_number(call, readings);
+    if number != 0 {
+        return number;
+    }
+    if out.len() < record_size(call) {
+        return 15;
+    }
+    put_record(call, readings, out);
+    0
+}
