@@ -1,13 +1,14 @@
 .PHONY: run test bench
 
-# Builds the Share archive and runs the example C program on it.
+# Runs `yearbook` on JOURNAL, or on an example journal.
 run:
-	@scripts/share-example
+	@scripts/run
 
 # Proves every crate, tries every must-fail edit, runs every program and compares with the other implementations.
 test:
 	@scripts/test
 
-# Measures against plain C.
+# Measures the division against plain C and the program against the reference.
 bench:
 	@scripts/bench-share
+	@scripts/bench-yearbook

@@ -1,17 +1,16 @@
 -- What number 3 leaves: the numbers of a call's unit, producer and consumer stand in their ranges.
-use mathlib.Core.Path.{_≡_, refl}
+use mathlib.Core.Path.{_≡_}
 use mathlib.Core.Bool.{true}
-use mathlib.Core.List.{List, [], _∷_}
+use mathlib.Core.List.{List, _∷_}
 use Prim.Native.Nat.{ℕ, _≤_}
-use Rattle.basis.specs.Choice.{pick, between}
+use Rattle.basis.specs.Choice.{between}
 use Rattle.basis.proofs.Choice.{both-true, between-true}
 use Rattle.plant.specs.Ranges.{greatestPower}
 use Rattle.plant.specs.Efficient.{units}
 use Rattle.record.specs.Fields.{withinAll}
 use Rattle.record.specs.Forms.{producers, consumers, formOf}
 use Rattle.record.specs.Calls.{partsOf}
-use Rattle.record.specs.Ranges.{fieldsInRange, callNumber}
-use Rattle.record.specs.declared.calls.Call.{Call}
+use Rattle.record.specs.Ranges.{callNumber}
 use Rattle.record.specs.declared.calls.Call.the-variants as call
 use Rattle.record.proofs.InRange.{in-range}
 

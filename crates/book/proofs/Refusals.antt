@@ -1,11 +1,10 @@
 -- A number that refuses, and one that does not.
-use mathlib.Core.Path.{_≡_, refl, sym, ap, _∙_}
+use mathlib.Core.Path.{_≡_, refl, sym, ap}
 use mathlib.Core.Bool.{Bool, true, false}
 use mathlib.Core.List.{List}
 use Prim.Native.Nat.{ℕ}
 use native.Mathlib.Omega.{arith}
 use borrow.Author.Tests.{ne-eqb}
-use lib.Dec.{eqb}
 use Rattle.basis.specs.Choice.{pick}
 use Rattle.plant.specs.Power.{testNumber, testOf}
 use Rattle.plant.specs.Availability.{availabilityNumber, availabilityOf}
@@ -13,13 +12,10 @@ use Rattle.plant.specs.declared.component.Cap.{Cap}
 use Rattle.plant.specs.declared.component.Component.{Component}
 use Rattle.plant.specs.declared.component.Minutes.{Minutes}
 use Rattle.plant.specs.declared.component.Answer.{Answer}
-use Rattle.book.specs.declared.state.Stage.{Stage}
-use Rattle.book.specs.declared.state.Stage.the-variants.{Blank, Gathering, Firm, Closed}
 use Rattle.book.specs.declared.state.Declaration.{Declaration}
 use Rattle.book.specs.declared.state.Declaration.the-variants.{Undeclared, Declared}
 use Rattle.book.specs.declared.changes.Change.{Change}
 use Rattle.book.specs.declared.changes.Change.the-variants.{Refused}
-use Rattle.book.specs.State.{stageNumber, staged}
 use Rattle.book.specs.Firm.{known}
 use Rattle.book.specs.Changes.{changeOf}
 

@@ -1,5 +1,5 @@
 -- The sum of a producer's balances.
-use mathlib.Core.Path.{_≡_, refl, sym, ap, _∙_}
+use mathlib.Core.Path.{_≡_, refl, _∙_}
 use mathlib.Core.List.{List, [], _∷_}
 use Prim.Native.Nat.{ℕ, zero, suc, _+_, _≤_, _<_}
 use native.Mathlib.Numerals.{add-one}
@@ -7,7 +7,7 @@ use native.Mathlib.Omega.{arith}
 use lib.ListN.{getD, take, drop}
 use lib.Seq.{getD-drop, getD-take}
 use Rattle.basis.specs.Sums.{sum}
-use Rattle.basis.proofs.Sums.{sum-cons, at-most-sum}
+use Rattle.basis.proofs.Sums.{at-most-sum}
 
 -- one element more, also behind the end
 passed : (l : List ℕ) (i : ℕ) → sum (take (suc i) l) ≡ sum (take i l) + getD l i 0

@@ -2,14 +2,11 @@
 use mathlib.Core.Path.{_≡_, refl, sym, ap, _∙_}
 use mathlib.Core.Bool.{Bool, true, false}
 use mathlib.Core.List.{List, []}
-use Prim.Native.Nat.{ℕ, _-_, _≤_}
+use Prim.Native.Nat.{ℕ, _-_}
 use borrow.Author.Tests.{eqb-true, le-leb}
-use lib.Dec.{leb, eqb}
+use lib.Dec.{eqb}
 use lib.ListN.{getD}
 use Rattle.basis.specs.Choice.{pick}
-use Rattle.share.specs.Division.{divisionNumber}
-use Rattle.plant.specs.Efficient.{units}
-use Rattle.record.specs.Forms.{producers, consumers}
 use Rattle.record.specs.Ranges.{restInRange, callNumber}
 use Rattle.record.specs.declared.calls.Call.{Call}
 use Rattle.record.specs.declared.calls.Call.the-variants as call
@@ -17,16 +14,16 @@ use Rattle.book.specs.declared.state.Stage.the-variants.{Gathering, Firm
 use Rattle.book.specs.declared.state.Book.{Book}
 use Rattle.book.specs.declared.state.Reply.{Reply}
 use Rattle.book.specs.declared.changes.Change.{Change}
-use Rattle.book.specs.declared.changes.Change.the-variants.{Refused, ToFirm, ToClosed}
+use Rattle.book.specs.declared.changes.Change.the-variants.{Refused}
 use Rattle.book.specs.declared.changes.Places.{Places}
-use Rattle.book.specs.State.{freshUnit, freshConsumer, stageNumber, staged, replyOf}
+use Rattle.book.specs.State.{freshUnit, freshConsumer, stageNumber, replyOf}
 use Rattle.book.specs.Gathering.{yearNumber, begun, yearOf, unitNumber, enrolled, unitOf, testedNumber, tested, testReply, availableNumber, available, availabilityReply, declareNumber, declared, declareOf}
 use Rattle.book.specs.Fix.{fixNumber, fixed, fixOf}
 use Rattle.book.specs.Firm.{commitNumber, committed, commitOf, releaseNumber, released, releaseOf, meterNumber, metered, meterOf}
 use Rattle.book.specs.Close.{closeNumber, closed, closeOf}
 use Rattle.book.specs.Step.{stepOf}
 use Rattle.book.specs.Changes.{placeOf, placesOf, changeOf, accepted, yearChange, unitChange, testChange, availabilityChange, declareChange, fixChange, commitChange, releaseChange, meterChange, closeChange, changeBy, decideOf, decidedIn, settledOf}
-use Rattle.book.proofs.Ranged.{Numbered, Contract, unit-ranged, test-ranged, availability-ranged, declare-ranged, meter-ranged, commit-ranged, release-ranged}
+use Rattle.book.proofs.Ranged.{Numbered, unit-ranged, test-ranged, availability-ranged, declare-ranged, meter-ranged, commit-ranged, release-ranged}
 
 -- the place of a number in its range
 placed : {greatest n : ℕ} → Numbered greatest n → placeOf greatest n ≡ n - 1

@@ -34,12 +34,14 @@ pub fn step(book: Book, call: Call, readings: &[u8]) -> Reply
     settle(book, places, change)
 }
 
+// A year: hours of its stage of greatest thermal requirement, its hours of maximum demand, and those per day.
 pub fn year(book: Book, nhrm: u32, nhmd: u32, ndhmd: u32) -> Reply
     ensures { λ r. ⌜ r ≡ yearOf book nhrm nhmd ndhmd ⌝ }
 {
     step(book, Call::Year { nhrm, nhmd, ndhmd }, b"")
 }
 
+// A unit of a producer, with the fields of its record.
 pub fn unit(
     book: Book,
     unit: u32,
@@ -68,7 +70,7 @@ pub fn unit(
     step(book, call, b"")
 }
 
-// A test, with its readings, four bytes each, low byte first.
+// A test of a component, with its readings, four bytes each, low byte first.
 pub fn test(
     book: Book,
     unit: u32,
@@ -90,6 +92,7 @@ pub fn test(
     step(book, call, readings)
 }
 
+// The availability of a component, minutes.
 pub fn availability(
     book: Book,
     unit: u32,
@@ -112,18 +115,21 @@ pub fn availability(
     step(book, call, b"")
 }
 
+// A consumer's declaration D and the administrator's projection A, kW.
 pub fn declare(book: Book, consumer: u32, d: u32, a: u32) -> Reply
     ensures { λ r. ⌜ r ≡ declareOf book consumer d a ⌝ }
 {
     step(book, Call::Declare { consumer, d, a }, b"")
 }
 
+// The fix at a projected maximum demand DMP, kW.
 pub fn fix(book: Book, dmp: u32) -> Reply
     ensures { λ r. ⌜ r ≡ fixOf book dmp ⌝ }
 {
     step(book, Call::Fix { dmp }, b"")
 }
 
+// A contract of q kW.
 pub fn commit(book: Book, producer: u32, consumer: u32, q: u32) -> Reply
     ensures { λ r. ⌜ r ≡ commitOf book producer consumer q ⌝ }
 {
@@ -135,6 +141,7 @@ pub fn commit(book: Book, producer: u32, consumer: u32, q: u32) -> Reply
     step(book, call, b"")
 }
 
+// A release of q kW.
 pub fn release(book: Book, producer: u32, consumer: u32, q: u32) -> Reply
     ensures { λ r. ⌜ r ≡ releaseOf book producer consumer q ⌝ }
 {
@@ -146,12 +153,14 @@ pub fn release(book: Book, producer: u32, consumer: u32, q: u32) -> Reply
     step(book, call, b"")
 }
 
+// A consumer's real demand, kW.
 pub fn meter(book: Book, consumer: u32, dreal: u32) -> Reply
     ensures { λ r. ⌜ r ≡ meterOf book consumer dreal ⌝ }
 {
     step(book, Call::Meter { consumer, dreal }, b"")
 }
 
+// The close at P cents per kW-month.
 pub fn close(book: Book, p: u32) -> Reply
     ensures { λ r. ⌜ r ≡ closeOf book p ⌝ }
 {

@@ -1,6 +1,6 @@
 // The calls of the firm year: what each comes to, once it is in range.
 ghost use mathlib.Core.Path.{_≡_};
-ghost use Prim.Native.Nat.{_+_, _≤_, _<_};
+ghost use Prim.Native.Nat.{_+_, _*_, _≤_, _<_};
 ghost use lib.ListN.{take, drop};
 ghost use Rattle.basis.specs.Sums.{sum};
 ghost use Rattle.record.specs.Forms.{producers, consumers};
@@ -32,6 +32,7 @@ fn firm_number(stage: Stage, declaration: Declaration) -> u32
     }
 }
 
+// A balance as a term of a sum.
 fn wide(x: u32) -> u64
     ensures { λ r. ⌜ (r ≡ x) × (r < 4294967296) ⌝ }
 {
@@ -41,7 +42,7 @@ fn wide(x: u32) -> u64
 // The sum of the balances of a row.
 pub fn row_sum(balances: &[u32; CELLS], from: usize) -> u64
     requires { ⌜ from + consumers ≤ cells ⌝ }
-    ensures { λ r. ⌜ (r ≡ sum (take consumers (drop from (now (balances .entry))))) × (r < 274877906944) ⌝ }
+    ensures { λ r. ⌜ (r ≡ sum (take consumers (drop from (now (balances .entry))))) × (r ≤ consumers * 4294967295) ⌝ }
 {
     let mut sum: u64 = 0;
     let mut i = 0;
@@ -52,6 +53,7 @@ pub fn row_sum(balances: &[u32; CELLS], from: usize) -> u64
     sum
 }
 
+// A contract: 4, 10, 11, or the pair's balance with the amount on top.
 pub fn commit_change<'a>(
     stage: Stage,
     x: Consumer,
@@ -75,9 +77,12 @@ pub fn commit_change<'a>(
         return Change::Refused(11);
     }
     let cell = from + (consumer - 1) as usize;
-    Change::ToBalance(balances[cell] + q)
+    let balance = balances[cell];
+    let raised = balance + q;
+    Change::ToBalance(raised)
 }
 
+// A release: 4, 10, 12, or the pair's balance less the amount.
 pub fn release_change(
     stage: Stage,
     x: Consumer,
@@ -99,9 +104,11 @@ pub fn release_change(
     if balance < q {
         return Change::Refused(12);
     }
-    Change::ToBalance(balance - q)
+    let left = balance - q;
+    Change::ToBalance(left)
 }
 
+// A reading of real demand: 4, 10, or the consumer with it.
 pub fn meter_change(stage: Stage, x: Consumer, dreal: u32) -> Change
     ensures { λ r. ⌜ r ≡ meterChange stage x dreal ⌝ }
 {
@@ -116,6 +123,7 @@ pub fn meter_change(stage: Stage, x: Consumer, dreal: u32) -> Change
     })
 }
 
+// A close: 4, or P.
 pub fn close_change(stage: Stage, p: u32) -> Change
     ensures { λ r. ⌜ r ≡ closeChange stage p ⌝ }
 {

@@ -24,6 +24,7 @@ use plant::Kwh;
 use plant::Plant;
 use plant::fresh_component;
 
+// A year: 4, or its hours.
 pub fn year_change(stage: Stage, nhrm: u32, nhmd: u32, ndhmd: u32) -> Change
     ensures { λ r. ⌜ r ≡ yearChange stage nhrm nhmd ndhmd ⌝ }
 {
@@ -86,6 +87,7 @@ fn enrolled_unit(entry: Entry) -> Unit
     }
 }
 
+// A unit: 4, 5, or the unit enrolled.
 pub fn unit_change(
     stage: Stage,
     unit: Unit,
@@ -113,6 +115,7 @@ pub fn unit_change(
     }
 }
 
+// A declaration: 4, or the consumer with it in the place of the earlier.
 pub fn declare_change(stage: Stage, consumer: Consumer, d: u32, a: u32) -> Change
     ensures { λ r. ⌜ r ≡ declareChange stage consumer d a ⌝ }
 {
@@ -127,6 +130,7 @@ pub fn declare_change(stage: Stage, consumer: Consumer, d: u32, a: u32) -> Chang
     })
 }
 
+// A fix: 4, or DMP.
 pub fn fix_change(stage: Stage, dmp: u32) -> Change
     ensures { λ r. ⌜ r ≡ fixChange stage dmp ⌝ }
 {

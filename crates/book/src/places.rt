@@ -7,6 +7,7 @@ use crate::state::PRODUCERS;
 use plant::UNITS;
 use record::Call;
 
+// The places of a call without unit, consumer and balance.
 const NOWHERE: Places = Places {
     cell: 0,
     consumer: 0,
@@ -31,14 +32,17 @@ fn place_of(greatest: usize, number: u32) -> usize
 fn contract_places(producer: u32, consumer: u32) -> Places
     ensures { λ r. ⌜ r ≡ contractPlaces producer consumer ⌝ }
 {
+    let row = place_of(PRODUCERS, producer);
     let column = place_of(CONSUMERS, consumer);
+    let cell = row * CONSUMERS + column;
     Places {
-        cell: place_of(PRODUCERS, producer) * CONSUMERS + column,
+        cell,
         consumer: column,
         unit: 0,
     }
 }
 
+// The places of a call, each within the book.
 pub fn places_of(call: Call) -> Places
     ensures { λ r. ⌜ Placed call r ⌝ }
 {

@@ -34,6 +34,7 @@ fn has_availability(kind: u32, component: u32) -> bool
     component == 0
 }
 
+// A component of a unit, by its number.
 fn component_of(unit: Unit, component: u32) -> Component
     ensures { λ r. ⌜ r ≡ componentOf unit component ⌝ }
 {
@@ -80,7 +81,7 @@ fn with_component(unit: Unit, component: u32, x: Component) -> Unit
     }
 }
 
-// A test of a unit that is enrolled.
+// A test of a unit that is enrolled: 7, 8, or the unit with its component tested.
 fn entered_test(
     unit: Unit,
     entry: Entry,
@@ -106,6 +107,7 @@ fn entered_test(
     Change::ToUnit(with_component(unit, component, tested))
 }
 
+// A test: 4, 6, and what is left for an enrolled unit.
 pub fn test_change(
     stage: Stage,
     unit: Unit,
@@ -129,7 +131,7 @@ pub fn test_change(
     }
 }
 
-// An availability of a unit that is enrolled.
+// An availability of a unit that is enrolled: 7, 9, or the unit with its component's availability.
 fn entered_availability(
     unit: Unit,
     entry: Entry,
@@ -154,6 +156,7 @@ fn entered_availability(
     Change::ToUnit(with_component(unit, component, available))
 }
 
+// An availability: 4, 6, and what is left for an enrolled unit.
 pub fn availability_change(
     stage: Stage,
     unit: Unit,

@@ -1,7 +1,5 @@
 // What a listing or a screen asks of a book. A number out of its range has the answer of one that is not there.
 ghost use mathlib.Core.Path.{_≡_};
-ghost use Rattle.basis.specs.Choice.{between};
-ghost use Rattle.plant.specs.Efficient.{units};
 ghost use Rattle.book.specs.Questions.{ownedBy, hasUnit, offersBy, unitOffersOf, producerTotalsOf, declarationOf, signedOf, adjustmentBy, adjustmentOf, closeTotalsOf};
 use crate::firm::row_sum;
 use crate::stages::CLOSED;
@@ -50,6 +48,7 @@ pub struct CloseTotals {
     pub undistributed: u64,
 }
 
+// The stage of a book.
 pub fn stage_of(book: Book) -> Stage
     ensures { λ r. ⌜ r ≡ book .stage ⌝ }
 {
@@ -57,6 +56,7 @@ pub fn stage_of(book: Book) -> Stage
     stage
 }
 
+// The offers, if the unit is enrolled.
 fn offers_by(enrolment: Enrolment, firm: u32, efficient: u32) -> UnitOffers
     ensures { λ r. ⌜ r ≡ offersBy enrolment firm efficient ⌝ }
 {
@@ -66,6 +66,7 @@ fn offers_by(enrolment: Enrolment, firm: u32, efficient: u32) -> UnitOffers
     }
 }
 
+// The firm and the efficient offer of a unit.
 pub fn unit_offers(book: Book, unit: u32) -> UnitOffers
     ensures { λ r. ⌜ r ≡ unitOffersOf book unit ⌝ }
 {
@@ -108,6 +109,7 @@ fn has_unit(producer: u32, units: [Unit; UNITS]) -> bool
     false
 }
 
+// What a producer with a unit may commit, and what it has committed.
 pub fn producer_totals(book: Book, producer: u32) -> ProducerTotals
     ensures { λ r. ⌜ r ≡ producerTotalsOf book producer ⌝ }
 {
@@ -155,6 +157,7 @@ fn signed_of(a: u32, b: u32) -> Signed
     Signed::Minus((b - a) as u64)
 }
 
+// The adjustment of a consumer, if it declared.
 fn adjustment_by(declaration: Declaration, dfa: u32, charge: u64, credit: u64) -> Adjustment
     ensures { λ r. ⌜ r ≡ adjustmentBy declaration dfa charge credit ⌝ }
 {
@@ -168,6 +171,7 @@ fn adjustment_by(declaration: Declaration, dfa: u32, charge: u64, credit: u64) -
     }
 }
 
+// A consumer's adjustment, charge and credit after the close.
 pub fn adjustment_of(book: Book, consumer: u32) -> Adjustment
     ensures { λ r. ⌜ r ≡ adjustmentOf book consumer ⌝ }
 {
@@ -193,6 +197,7 @@ pub fn adjustment_of(book: Book, consumer: u32) -> Adjustment
     )
 }
 
+// The three totals of the close.
 pub fn close_totals(book: Book) -> CloseTotals
     ensures { λ r. ⌜ r ≡ closeTotalsOf book ⌝ }
 {

@@ -3,7 +3,7 @@ ghost use mathlib.Core.Path.{_≡_};
 ghost use lib.ListN.{set};
 ghost use Rattle.book.specs.State.{withUnits, withConsumers, withBalances};
 ghost use Rattle.book.specs.Gathering.{begun};
-ghost use Rattle.book.specs.Changes.{settledOf};
+ghost use Rattle.book.specs.Changes.{accepted, settledOf};
 use crate::changes::Change;
 use crate::changes::Places;
 use crate::close::close_book;
@@ -18,40 +18,49 @@ use crate::state::Unit;
 use plant::Hours;
 use plant::UNITS;
 
-// The book with a balance at a cell.
-fn with_balance(book: Book, cell: usize, balance: u32) -> Book
-    ensures { λ r. ⌜ r ≡ withBalances book (set (book .balances) cell balance) ⌝ }
+// Accepted, with a balance at a cell; outside the book nothing changes.
+fn with_balance(book: Book, cell: usize, balance: u32) -> Reply
+    ensures { λ r. ⌜ r ≡ accepted (withBalances book (set (book .balances) cell balance)) ⌝ }
 {
     if CELLS <= cell {
-        return book;
+        return Reply { number: 0, book };
     }
     let mut next = book;
     next.balances[cell] = balance;
-    next
+    Reply {
+        number: 0,
+        book: next,
+    }
 }
 
-// The book with a consumer at a place.
-fn with_consumer(book: Book, at: usize, x: Consumer) -> Book
-    ensures { λ r. ⌜ r ≡ withConsumers book (set (book .consumers) at x) ⌝ }
+// Accepted, with a consumer at a place; outside the book nothing changes.
+fn with_consumer(book: Book, at: usize, x: Consumer) -> Reply
+    ensures { λ r. ⌜ r ≡ accepted (withConsumers book (set (book .consumers) at x)) ⌝ }
 {
     if CONSUMERS <= at {
-        return book;
+        return Reply { number: 0, book };
     }
     let mut next = book;
     next.consumers[at] = x;
-    next
+    Reply {
+        number: 0,
+        book: next,
+    }
 }
 
-// The book with a unit at a place.
-fn with_unit(book: Book, at: usize, u: Unit) -> Book
-    ensures { λ r. ⌜ r ≡ withUnits book (set (book .units) at u) ⌝ }
+// Accepted, with a unit at a place; outside the book nothing changes.
+fn with_unit(book: Book, at: usize, u: Unit) -> Reply
+    ensures { λ r. ⌜ r ≡ accepted (withUnits book (set (book .units) at u)) ⌝ }
 {
     if UNITS <= at {
-        return book;
+        return Reply { number: 0, book };
     }
     let mut next = book;
     next.units[at] = u;
-    next
+    Reply {
+        number: 0,
+        book: next,
+    }
 }
 
 // The book of a year that begins.
@@ -92,18 +101,9 @@ pub fn settle(book: Book, places: Places, change: Change) -> Reply
 {
     match change {
         Change::Refused(number) => Reply { number, book },
-        Change::ToBalance(balance) => Reply {
-            number: 0,
-            book: with_balance(book, places.cell, balance),
-        },
-        Change::ToConsumer(x) => Reply {
-            number: 0,
-            book: with_consumer(book, places.consumer, x),
-        },
-        Change::ToUnit(u) => Reply {
-            number: 0,
-            book: with_unit(book, places.unit, u),
-        },
+        Change::ToBalance(balance) => with_balance(book, places.cell, balance),
+        Change::ToConsumer(x) => with_consumer(book, places.consumer, x),
+        Change::ToUnit(u) => with_unit(book, places.unit, u),
         Change::ToGathering(hours) => Reply {
             number: 0,
             book: begin(book, hours),

@@ -1,4 +1,4 @@
-// The stages by their numbers.
+// The four stages by their numbers.
 ghost use mathlib.Core.Path.{_≡_};
 ghost use Rattle.book.specs.State.{stageNumber};
 use crate::state::Stage;
@@ -11,6 +11,7 @@ pub const FIRM: u32 = 2;
 
 pub const CLOSED: u32 = 3;
 
+// The number of a stage.
 pub fn stage_number(stage: Stage) -> u32
     ensures { λ r. ⌜ r ≡ stageNumber stage ⌝ }
 {

@@ -15,3 +15,5 @@ pub mod Closing
 pub mod Lists
 pub mod Theorem
 pub mod Refusals
+pub mod Cases
+pub mod Journals

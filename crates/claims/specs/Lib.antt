@@ -3,3 +3,5 @@ pub mod History
 pub mod Figures
 pub mod Demand
 pub mod Refusals
+pub mod Cases
+pub mod Journals

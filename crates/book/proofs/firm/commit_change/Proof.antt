@@ -65,14 +65,14 @@ cast-cell c = search needs
 add-cell : tie.Need-add-cell
 add-cell c = search needs
 
-mul-t16 : tie.Need-mul-t16
-mul-t16 c = search needs
+mul-balance : tie.Need-mul-balance
+mul-balance c = search needs
 
-element-copy-out-t14 : tie.Need-element-copy-out-t14
-element-copy-out-t14 c = search needs
+element-copy-out-balance : tie.Need-element-copy-out-balance
+element-copy-out-balance c = search needs
 
-add-t24 : tie.Need-add-t24
-add-t24 c =
+add-raised : tie.Need-add-raised
+add-raised c =
     let a = c .before .before .before .before .before .before .before .args in
     omega (arith, in-row (now (a .balances)) ((a .producer - 1) * consumers) consumers (a .consumer - 1) (omega arith))
 
@@ -101,7 +101,7 @@ commit-change-spec =
     sub-cell
     cast-cell
     add-cell
-    mul-t16
-    element-copy-out-t14
-    add-t24
+    mul-balance
+    element-copy-out-balance
+    add-raised
     returns-3)

@@ -12,15 +12,15 @@ place-of-requires c κs = search needs
 place-of-requires-2 : tie.Need-place-of-requires-2
 place-of-requires-2 c κs = search needs
 
-mul-t5 : tie.Need-mul-t5
-mul-t5 c =
+mul-cell : tie.Need-mul-cell
+mul-cell c =
     let a = c .before .before .args in
     let i = place-below producers (a .producer) (omega arith) in
     let j = place-below consumers (a .consumer) (omega arith) in
     omega (arith, c .place-of2 .ensures, c .before .place-of .ensures)
 
-add-t6 : tie.Need-add-t6
-add-t6 c =
+add-cell : tie.Need-add-cell
+add-cell c =
     let a = c .before .before .args in
     let i = place-below producers (a .producer) (omega arith) in
     let j = place-below consumers (a .consumer) (omega arith) in
@@ -31,4 +31,4 @@ returns c = simp (c .place-of2 .ensures, c .before .place-of .ensures)
 
 pub contract-places-spec : {M : Type 1} → statement M
 contract-places-spec =
-    tie.close (tie.spec place-of-requires place-of-requires-2 mul-t5 add-t6 returns)
+    tie.close (tie.spec place-of-requires place-of-requires-2 mul-cell add-cell returns)

@@ -49,15 +49,15 @@ returns c = rw (c .before .change .given .1)
 
 returns-2 : tie.Need-returns-2
 unfolding settledOf
-returns-2 c = rw (c .before .before .change2 .given .1, ← c .with-balance .ensures)
+returns-2 c = rw (c .before .before .change2 .given .1) (c .with-balance .ensures)
 
 returns-3 : tie.Need-returns-3
 unfolding settledOf
-returns-3 c = rw (c .before .before .change3 .given .1, ← c .with-consumer .ensures)
+returns-3 c = rw (c .before .before .change3 .given .1) (c .with-consumer .ensures)
 
 returns-4 : tie.Need-returns-4
 unfolding settledOf
-returns-4 c = rw (c .before .before .change4 .given .1, ← c .with-unit .ensures)
+returns-4 c = rw (c .before .before .change4 .given .1) (c .with-unit .ensures)
 
 returns-5 : tie.Need-returns-5
 unfolding settledOf

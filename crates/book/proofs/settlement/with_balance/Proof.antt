@@ -1,6 +1,7 @@
 -- `book::settlement::with_balance` meets its contract. Assumes nothing.
 use mathlib.Core.Path.{ap}
 use borrow.Author.Needs.{needs}
+use Rattle.book.specs.Changes.{accepted}
 use Rattle.book.specs.State.{withBalances}
 use Rattle.book.proofs.Stored.{behind}
 use Rattle.book.proofs.settlement.with_balance.Statement.{statement}
@@ -9,7 +10,7 @@ use Rattle.book.proofs.settlement.with_balance.Tie as tie
 returns : tie.Need-returns
 returns c =
     let s = c .before in
-    ap (λ l. withBalances (s .args .book) l) (behind _ (s .args .book .balances) (s .args .cell) _ (s .good .0 .1 .1 .1 .1 .1 .1 .0 .1 .0 .1) (c .if1 .taken))
+    ap (λ l. accepted (withBalances (s .args .book) l)) (behind _ (s .args .book .balances) (s .args .cell) _ (s .good .0 .1 .1 .1 .1 .1 .1 .0 .1 .0 .1) (c .if1 .taken))
 
 mul-next : tie.Need-mul-next
 mul-next c = search needs

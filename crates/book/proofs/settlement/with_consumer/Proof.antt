@@ -1,6 +1,7 @@
 -- `book::settlement::with_consumer` meets its contract. Assumes nothing.
 use mathlib.Core.Path.{ap}
 use borrow.Author.Needs.{needs}
+use Rattle.book.specs.Changes.{accepted}
 use Rattle.book.specs.State.{withConsumers}
 use Rattle.book.proofs.Stored.{behind}
 use Rattle.book.proofs.settlement.with_consumer.Statement.{statement}
@@ -9,7 +10,7 @@ use Rattle.book.proofs.settlement.with_consumer.Tie as tie
 returns : tie.Need-returns
 returns c =
     let s = c .before in
-    ap (λ l. withConsumers (s .args .book) l) (behind _ (s .args .book .consumers) (s .args .at) _ (s .good .0 .1 .1 .1 .1 .1 .0 .1 .0 .1) (c .if1 .taken))
+    ap (λ l. accepted (withConsumers (s .args .book) l)) (behind _ (s .args .book .consumers) (s .args .at) _ (s .good .0 .1 .1 .1 .1 .1 .0 .1 .0 .1) (c .if1 .taken))
 
 mul-x : tie.Need-mul-x
 mul-x c = search needs

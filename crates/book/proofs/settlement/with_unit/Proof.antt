@@ -1,6 +1,7 @@
 -- `book::settlement::with_unit` meets its contract. Assumes nothing.
 use mathlib.Core.Path.{ap}
 use borrow.Author.Needs.{needs}
+use Rattle.book.specs.Changes.{accepted}
 use Rattle.book.specs.State.{withUnits}
 use Rattle.book.proofs.Stored.{behind}
 use Rattle.book.proofs.settlement.with_unit.Statement.{statement}
@@ -9,7 +10,7 @@ use Rattle.book.proofs.settlement.with_unit.Tie as tie
 returns : tie.Need-returns
 returns c =
     let s = c .before in
-    ap (λ l. withUnits (s .args .book) l) (behind _ (s .args .book .units) (s .args .at) _ (s .good .0 .1 .1 .1 .1 .0 .1 .0 .1) (c .if1 .taken))
+    ap (λ l. accepted (withUnits (s .args .book) l)) (behind _ (s .args .book .units) (s .args .at) _ (s .good .0 .1 .1 .1 .1 .0 .1 .0 .1) (c .if1 .taken))
 
 mul-u : tie.Need-mul-u
 mul-u c = search needs

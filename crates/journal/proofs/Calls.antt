@@ -1,0 +1,87 @@
+-- The run's book is the book after the list of the calls that it read.
+use mathlib.Core.Path.{_≡_, refl, sym, ap, _∙_}
+use mathlib.Core.List.{List, [], _∷_}
+use Prim.Native.Nat.{ℕ, zero, suc, _+_}
+use native.Mathlib.Omega.{arith}
+use lib.ListN.{length}
+use Rattle.record.specs.declared.calls.Call.{Call}
+use Rattle.record.specs.declared.reading.Read.{Read}
+use Rattle.record.specs.declared.reading.Read.the-variants.{End, Cut, Unknown, Record}
+use Rattle.record.specs.Reading.{readAt, partOf}
+use Rattle.book.specs.declared.state.Book.{Book}
+use Rattle.book.specs.State.{freshBook}
+use Rattle.book.specs.Lists.{Event, afterAll}
+use Rattle.journal.specs.declared.state.Run.{Run}
+use Rattle.journal.specs.Run.{started, runFrom, runOf}
+use Rattle.journal.specs.Calls.{callsFrom, placesFrom, callsOf, placesOf, numbersAfter}
+use Rattle.journal.proofs.Turns.{turned, run-end, run-cut, run-unknown, run-record}
+
+abbrev pub event : List ℕ → Call → ℕ → ℕ → Event
+event s c from next = record { call = c; readings = partOf s from next }
+
+module _ (n : ℕ) (s : List ℕ) (at : ℕ) where
+  pub calls-end : readAt s at ≡ End → callsFrom (suc n) s at ≡ []
+  unfolding callsFrom
+  calls-end e = rw (e, callsFrom)
+
+  pub calls-cut : readAt s at ≡ Cut → callsFrom (suc n) s at ≡ []
+  unfolding callsFrom
+  calls-cut e = rw (e, callsFrom)
+
+  pub calls-unknown : readAt s at ≡ Unknown → callsFrom (suc n) s at ≡ []
+  unfolding callsFrom
+  calls-unknown e = rw (e, callsFrom)
+
+  pub calls-record : {c : Call} {from next : ℕ} → readAt s at ≡ Record c from next → callsFrom (suc n) s at ≡ event s c from next ∷ callsFrom n s next
+  unfolding callsFrom
+  calls-record e = rw (e, callsFrom)
+
+  pub places-record : {c : Call} {from next : ℕ} → readAt s at ≡ Record c from next → placesFrom (suc n) s at ≡ at ∷ placesFrom n s next
+  unfolding placesFrom
+  places-record e = rw (e, placesFrom)
+
+after-none : (b : Book) (es : List Event) → es ≡ [] → afterAll b es ≡ b
+unfolding afterAll
+after-none b es e = rw e
+
+book-from : (n : ℕ) (s : List ℕ) (r : Run) → afterAll (r .book) (callsFrom n s (r .place)) ≡ runFrom n s r .book
+unfolding afterAll runFrom callsFrom
+book-from zero s r = refl
+book-from (suc n) s r = go (readAt s (r .place)) refl (λ q. book-from n s q)
+  where
+    go : (x : Read) → readAt s (r .place) ≡ x → ((q : Run) → afterAll (q .book) (callsFrom n s (q .place)) ≡ runFrom n s q .book) → afterAll (r .book) (callsFrom (suc n) s (r .place)) ≡ runFrom (suc n) s r .book
+    go End e f =
+        after-none (r .book) (callsFrom (suc n) s (r .place)) (calls-end n s (r .place) e) ∙ ap (λ (q : Run). q .book) (sym (run-end n s r e))
+    go Cut e f =
+        after-none (r .book) (callsFrom (suc n) s (r .place)) (calls-cut n s (r .place) e) ∙ ap (λ (q : Run). q .book) (sym (run-cut n s r e))
+    go Unknown e f =
+        after-none (r .book) (callsFrom (suc n) s (r .place)) (calls-unknown n s (r .place) e) ∙ ap (λ (q : Run). q .book) (sym (run-unknown n s r e))
+    go (Record c from next) e f =
+        ap (afterAll (r .book)) (calls-record n s (r .place) e)
+        ∙ f (turned s r c from next)
+        ∙ ap (λ (q : Run). q .book) (sym (run-record n s r e))
+
+pub run-book : (s : List ℕ) → afterAll freshBook (callsOf s) ≡ runOf s .book
+unfolding callsOf runOf started
+run-book s = book-from (suc (length s)) s started
+
+-- as many places, and as many numbers, as calls
+length-places-from : (n : ℕ) (s : List ℕ) (at : ℕ) → length (placesFrom n s at) ≡ length (callsFrom n s at)
+unfolding placesFrom callsFrom
+length-places-from zero s at = refl
+length-places-from (suc n) s at = go (readAt s at) refl (λ next. length-places-from n s next)
+  where
+    go : (x : Read) → readAt s at ≡ x → ((next : ℕ) → length (placesFrom n s next) ≡ length (callsFrom n s next)) → length (placesFrom (suc n) s at) ≡ length (callsFrom (suc n) s at)
+    go End e f = rw (e, placesFrom, callsFrom)
+    go Cut e f = rw (e, placesFrom, callsFrom)
+    go Unknown e f = rw (e, placesFrom, callsFrom)
+    go (Record c from next) e f = rw (e, placesFrom, callsFrom) (ap suc (f next))
+
+pub length-places : (s : List ℕ) → length (placesOf s) ≡ length (callsOf s)
+unfolding placesOf callsOf
+length-places s = length-places-from (suc (length s)) s 0
+
+pub length-numbers : (b : Book) (es : List Event) → length (numbersAfter b es) ≡ length es
+unfolding numbersAfter
+length-numbers b [] = refl
+length-numbers b (e ∷ es) = ap suc (length-numbers _ es)

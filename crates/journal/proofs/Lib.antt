@@ -1,0 +1,8 @@
+-- Laws of the run over a journal.
+pub mod Reading
+pub mod Turns
+pub mod Counts
+pub mod Calls
+pub mod Refusals
+pub mod Stops
+pub mod Underway

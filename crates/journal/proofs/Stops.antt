@@ -1,0 +1,78 @@
+-- Where a run ends, and what stands there.
+use mathlib.Core.Path.{_≡_, refl, sym, ap, _∙_}
+use mathlib.Core.List.{List}
+use Prim.Native.Nat.{ℕ, zero, suc, _+_, _-_, _≤_, _<_}
+use native.Mathlib.Nat.{le-refl}
+use native.Mathlib.Omega.{arith}
+use lib.ListN.{length}
+use Rattle.record.specs.declared.reading.Read.{Read}
+use Rattle.record.specs.declared.reading.Read.the-variants.{End, Cut, Unknown, Record}
+use Rattle.record.specs.Reading.{readAt}
+use Rattle.journal.specs.declared.state.Run.{Run}
+use Rattle.journal.specs.Run.{started, stopped, runFrom, runOf}
+use Rattle.journal.specs.Calls.{callsFrom, callsOf}
+use Rattle.journal.proofs.Reading.{next-above, next-within, end-behind}
+use Rattle.journal.proofs.Turns.{turned, run-end, run-cut, run-unknown, run-record}
+use Rattle.journal.proofs.Calls.{calls-end, calls-cut, calls-unknown, calls-record}
+
+-- without a stop the journal has ended; with one a record that is cut short or an unknown mark stands at its place
+pub record Ends (s : List ℕ) (r : Run) : Type 0 where
+  pub whole : r .stop ≡ 0 → r .place ≡ length s
+  pub cut : r .stop ≡ 1 → readAt s (r .place) ≡ Cut
+  pub unknown : r .stop ≡ 2 → readAt s (r .place) ≡ Unknown
+  pub numbers : r .stop ≤ 2
+
+ends-from : (n : ℕ) (s : List ℕ) (r : Run) → length s - r .place < n → r .place ≤ length s → r .stop ≡ 0 → Ends s (runFrom n s r)
+ends-from zero s r h k z = absurd (omega arith)
+ends-from (suc n) s r h k z = go (readAt s (r .place)) refl (λ q a b c. ends-from n s q a b c)
+  where
+    go : (x : Read) → readAt s (r .place) ≡ x → ((q : Run) → length s - q .place < n → q .place ≤ length s → q .stop ≡ 0 → Ends s (runFrom n s q)) → Ends s (runFrom (suc n) s r)
+    go End e f =
+        rw (run-end n s r e)
+        (record {
+          whole = λ o. omega (arith, end-behind s (r .place) e);
+          cut = λ o. absurd (omega arith);
+          unknown = λ o. absurd (omega arith);
+          numbers = omega arith;
+        })
+    go Cut e f =
+        rw (run-cut n s r e)
+        (record {
+          whole = λ o. absurd (omega arith);
+          cut = λ o. e;
+          unknown = λ o. absurd (omega arith);
+          numbers = omega arith;
+        })
+    go Unknown e f =
+        rw (run-unknown n s r e)
+        (record {
+          whole = λ o. absurd (omega arith);
+          cut = λ o. absurd (omega arith);
+          unknown = λ o. e;
+          numbers = omega arith;
+        })
+    go (Record c from next) e f =
+        let a = next-above s (r .place) e in
+        let b = next-within s (r .place) e in
+        rw (run-record n s r e) (f (turned s r c from next) (omega arith) b z)
+
+pub run-ends : (s : List ℕ) → Ends s (runOf s)
+unfolding runOf started
+run-ends s = ends-from (suc (length s)) s started (omega arith) (omega arith) refl
+
+-- each record that was read is one call of the list
+read-from : (n : ℕ) (s : List ℕ) (r : Run) → runFrom n s r .read ≡ r .read + length (callsFrom n s (r .place))
+unfolding runFrom callsFrom
+read-from zero s r = omega arith
+read-from (suc n) s r = go (readAt s (r .place)) refl (λ q. read-from n s q)
+  where
+    go : (x : Read) → readAt s (r .place) ≡ x → ((q : Run) → runFrom n s q .read ≡ q .read + length (callsFrom n s (q .place))) → runFrom (suc n) s r .read ≡ r .read + length (callsFrom (suc n) s (r .place))
+    go End e f = rw (run-end n s r e, calls-end n s (r .place) e) (omega arith)
+    go Cut e f = rw (run-cut n s r e, calls-cut n s (r .place) e) (omega arith)
+    go Unknown e f = rw (run-unknown n s r e, calls-unknown n s (r .place) e) (omega arith)
+    go (Record c from next) e f =
+        rw (run-record n s r e, calls-record n s (r .place) e) (omega (arith, f (turned s r c from next)))
+
+pub read-length : (s : List ℕ) → runOf s .read ≡ length (callsOf s)
+unfolding runOf callsOf started
+read-length s = omega (arith, read-from (suc (length s)) s started)

@@ -1,0 +1,88 @@
+-- What holds of a run that is underway, and one turn of it.
+use mathlib.Core.Path.{_≡_, refl, sym, ap, _∙_}
+use mathlib.Core.Bool.{Bool, true, false}
+use mathlib.Core.List.{List}
+use Prim.Native.Nat.{ℕ, suc, _+_, _-_, _^_, _≤_, _<_}
+use native.Mathlib.Omega.{arith}
+use lib.Dec.{eqb}
+use lib.ListN.{length, getD}
+use Rattle.basis.specs.Choice.{pick}
+use Rattle.record.specs.declared.calls.Call.{Call}
+use Rattle.record.specs.declared.reading.Read.{Read}
+use Rattle.record.specs.declared.reading.Read.the-variants.{End, Cut, Unknown, Record}
+use Rattle.record.specs.Reading.{readAt, stopNumber, partOf}
+use Rattle.book.specs.declared.state.Book.{Book}
+use Rattle.book.specs.declared.state.Reply.{Reply}
+use Rattle.book.specs.declared.changes.Change.{Change}
+use Rattle.book.specs.declared.changes.Places.{Places}
+use Rattle.book.specs.State.{freshUnit, freshConsumer, freshBook}
+use Rattle.book.specs.Step.{stepOf}
+use Rattle.book.specs.Changes.{placesOf, decideOf, decidedIn, settledOf}
+use Rattle.book.proofs.Settled.{step-law}
+use Rattle.journal.specs.declared.state.Run.{Run}
+use Rattle.journal.specs.declared.state.Tally.{Tally}
+use Rattle.journal.specs.Run.{started, answered, stopped, runFrom, runOf}
+use Rattle.journal.specs.Tally.{noTally, tallied, runWith}
+use Rattle.journal.proofs.Reading.{next-above, next-within}
+use Rattle.journal.proofs.Turns.{turned, runOn, on-record, run-end, run-cut, run-unknown}
+
+-- no record is empty, so that the counts stay below the place; and what is still to come makes the run
+pub record Underway (s : List ℕ) (r : Run) : Type 0 where
+  pub within : r .place ≤ length s
+  pub counts : (r .read ≤ r .place) × (r .accepted ≤ r .read) × (r .refused ≤ r .read)
+  pub same : runOn s r ≡ runOf s
+
+pub begins : (s : List ℕ) → Underway s (runWith noTally freshBook 0)
+unfolding started runOf
+begins s = record { within = omega arith; counts = (omega arith, omega arith, omega arith); same = refl }
+
+module _ {s : List ℕ} {r : Run} (u : Underway s r) where
+  -- a record that was read and answered
+  answered-counts : (t : Bool) → (pick t (r .accepted + 1) (r .accepted) ≤ r .read + 1) × (pick t (r .refused) (r .refused + 1) ≤ r .read + 1)
+  answered-counts true = (omega (arith, u .counts), omega (arith, u .counts))
+  answered-counts false = (omega (arith, u .counts), omega (arith, u .counts))
+
+  pub goes-on : {c : Call} {from next : ℕ} → readAt s (r .place) ≡ Record c from next → Underway s (turned s r c from next)
+  goes-on {c} {from} {next} e =
+      let a = next-above s (r .place) e in
+      let n = answered-counts (eqb (stepOf (r .book) c (partOf s from next) .number) 0) in
+      record {
+        within = next-within s (r .place) e;
+        counts = (omega (arith, u .counts), n .0, n .1);
+        same = sym (on-record s r e) ∙ u .same;
+      }
+
+  -- anything else ends the run
+  pub ends : (x : Read) → readAt s (r .place) ≡ x → r .stop ≡ 0 → ((c : Call) (from next : ℕ) → x ≡ Record c from next → ⊥) → stopped r (stopNumber x) ≡ runOf s
+  ends End e z h = ap (λ n. stopped r n) (sym z) ∙ sym (run-end (length s) s r e) ∙ u .same
+  ends Cut e z h = sym (run-cut (length s) s r e) ∙ u .same
+  ends Unknown e z h = sym (run-unknown (length s) s r e) ∙ u .same
+  ends (Record c from next) e z h = absurd (h c from next refl)
+
+-- what was decided, settled in the book, is the call's step
+pub settles : (b : Book) (c : Call) (at : Places) (part : List ℕ) {change : Change} → at ≡ placesOf c → change ≡ decideOf c (b .stage) (getD (b .consumers) (at .consumer) freshConsumer) (getD (b .units) (at .unit) freshUnit) (b .balances) (b .limits) part → settledOf b at change ≡ stepOf b c part
+settles b c at part p d =
+    ap (settledOf b at) d
+    ∙ ap (λ (q : Places). settledOf b q (decideOf c (b .stage) (getD (b .consumers) (q .consumer) freshConsumer) (getD (b .units) (q .unit) freshUnit) (b .balances) (b .limits) part)) p
+    ∙ step-law b c part
+
+-- one turn of a tally and a book
+module _ {s : List ℕ} {t : Tally} {b : Book} (u : Underway s (runWith t b 0)) {c : Call} {from next : ℕ} (e : readAt s (t .place) ≡ Record c from next) where
+  -- the counts have room for one more
+  pub turn-fits : length s < 2 ^ 64 → (t .read + 1 < 2 ^ 64) × (t .accepted + 1 < 2 ^ 64) × (t .refused + 1 < 2 ^ 64)
+  turn-fits h =
+      let a = next-above s (t .place) e in
+      let b = next-within s (t .place) e in
+      let n = u .counts in
+      (omega arith, omega arith, omega arith)
+
+  module _ {t′ : Tally} (number : ℕ) (k : t′ ≡ tallied t number next) where
+    pub turn-to : {b′ : Book} → stepOf b c (partOf s from next) ≡ record { number = number; book = b′ } → Underway s (runWith t′ b′ 0)
+    turn-to {b′} h =
+        let w : turned s (runWith t b 0) c from next ≡ runWith t′ b′ 0 =
+        ap (λ (q : Reply). answered (runWith t b 0) q next) h ∙ ap (λ (x : Tally). runWith x b′ 0) (sym k) in
+        rw w at (goes-on u e)
+
+    pub turn-less : length s - t′ .place < length s - t .place
+    turn-less =
+        omega (arith, ap (λ (x : Tally). x .place) k, next-above s (t .place) e, next-within s (t .place) e)

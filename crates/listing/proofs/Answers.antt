@@ -1,0 +1,104 @@
+-- What putting a listing answers.
+use mathlib.Core.Path.{_≡_, refl, sym, ap, _∙_}
+use mathlib.Core.Bool.{Bool, true, false}
+use mathlib.Core.List.{List, [], _∷_, _++_}
+use Prim.Native.Nat.{ℕ, _+_, _≤_, _<_}
+use native.Mathlib.Omega.{arith}
+use borrow.Author.Tests.{lt-ltb, le-ltb, ltb-false, ne-eqb}
+use lib.Dec.{ltb, eqb}
+use lib.ListN.{length, take, drop}
+use lib.Seq.{take-at}
+use Rattle.basis.specs.Numbers.{written}
+use Rattle.basis.specs.Choice.{pick}
+use Rattle.journal.specs.declared.state.Run.{Run}
+use Rattle.journal.specs.Run.{runOf}
+use Rattle.listing.specs.declared.Listed.{Listed}
+use Rattle.listing.specs.Text.{Puts}
+use Rattle.listing.specs.Listing.{listingOf, listingMost, listed, listedOf, listedIn, Lists, outputOf, ListsJournal}
+
+module _ (text : List ℕ) (short : length text ≤ listingMost) (out : List ℕ) where
+  -- the buffer is shorter than the text
+  pub lists-refused : length out < length text → Lists text out (listed 15 0) out
+  unfolding listedOf listedIn
+  lists-refused h =
+      record { answer = rw (lt-ltb (length out) (length text) h); bytes = rw (lt-ltb (length out) (length text) h); short = short }
+
+  -- the text stands at the front
+  pub lists-put : {n : ℕ} {last : List ℕ} → length text ≤ length out → n ≡ length text → last ≡ written out 0 text → Lists text out (listed 0 n) last
+  unfolding listedOf listedIn
+  lists-put h k e =
+      record {
+        answer = rw (le-ltb (length out) (length text) h) (ap (listed 0) k);
+        bytes = rw (le-ltb (length out) (length text) h) e;
+        short = short;
+      }
+
+-- what a text that was put stands for
+module _ {m n : ℕ} {text old new : List ℕ} (put : Puts m text old 0 n new) where
+  pub as-long : n ≡ length text
+  as-long = omega (arith, put .next)
+
+  pub front : take n new ≡ text
+  front = ap (take n) (put .bytes) ∙ take-at text (drop (0 + length text) old) n (sym as-long)
+
+  pub front-length : n ≡ length (take n new)
+  front-length = as-long ∙ ap length (sym front)
+
+-- with number 0 the length is that of the text
+listed-length : (text : List ℕ) (room : ℕ) → listedOf text room .number ≡ 0 → listedOf text room .length ≡ length text
+unfolding listedOf
+listed-length text room = go (ltb room (length text))
+  where
+    go : (t : Bool) → pick t (listed 15 0) (listed 0 (length text)) .number ≡ 0 → pick t (listed 15 0) (listed 0 (length text)) .length ≡ length text
+    go true e = absurd (omega arith)
+    go false e = refl
+
+-- what was put fits the buffer
+pub listed-fits : {text old new : List ℕ} {r : Listed} → Lists text old r new → r .length ≤ length old
+unfolding listedOf
+listed-fits {text} {old} {new} {r} h = go (ltb (length old) (length text)) refl (h .answer)
+  where
+    go : (t : Bool) → ltb (length old) (length text) ≡ t → r ≡ pick t (listed 15 0) (listed 0 (length text)) → r .length ≤ length old
+    go true e k = omega (arith, ap (λ (x : Listed). x .length) k)
+    go false e k = omega (arith, ap (λ (x : Listed). x .length) k, ltb-false (length old) (length text) e)
+
+-- a buffer of the bound is enough
+pub listed-whole : {text old new : List ℕ} {r : Listed} → Lists text old r new → listingMost ≤ length old → r ≡ listed 0 (length text)
+unfolding listedOf
+listed-whole {text} {old} {new} {r} h k =
+    h .answer ∙ rw (le-ltb (length old) (length text) (omega (arith, h .short)))
+
+module _ (s : List ℕ) {old new : List ℕ} {run : Run} {r : Listed} (size : ℕ) (e : run ≡ runOf s) (h : Lists (listingOf run) old r new) where
+  lists : Lists (listingOf (runOf s)) old r new
+  lists = rw e at h
+
+  -- nothing is told
+  pub journal-refused : (r .number ≡ 0 → ⊥) → ListsJournal s old size (r .number) new size
+  journal-refused n =
+      record {
+        answer = ap (λ (x : Listed). x .number) (lists .answer);
+        bytes = lists .bytes;
+        length = rw (ne-eqb (r .number) 0 n);
+        short = lists .short;
+      }
+
+  -- the length is told
+  pub journal-put : r .number ≡ 0 → ListsJournal s old size 0 new (r .length)
+  journal-put n =
+      let a : r .number ≡ listedOf (listingOf (runOf s)) (length old) .number = ap (λ (x : Listed). x .number) (lists .answer) in
+      record {
+        answer = sym n ∙ a;
+        bytes = lists .bytes;
+        length =
+            ap (λ (x : Listed). x .length) (lists .answer) ∙ listed-length (listingOf (runOf s)) (length old) (sym a ∙ n);
+        short = lists .short;
+      }
+
+-- the output of an input that is too long, and of another
+pub output-cross : (input : List ℕ) → 65536 < length input → outputOf input ≡ 88 ∷ 10 ∷ []
+unfolding outputOf
+output-cross input h = rw (lt-ltb 65536 (length input) h)
+
+pub output-listing : (input : List ℕ) → length input ≤ 65536 → outputOf input ≡ listingOf (runOf input)
+unfolding outputOf
+output-listing input h = rw (le-ltb 65536 (length input) h)

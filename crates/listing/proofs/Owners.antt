@@ -1,0 +1,37 @@
+-- The producers of the units, searched one by one.
+use mathlib.Core.Path.{_≡_, refl, sym, ap, _∙_}
+use mathlib.Core.Bool.{Bool, true, false}
+use mathlib.Core.List.{List, [], _∷_}
+use Prim.Native.Nat.{ℕ, suc, _+_, _-_, _*_, _≤_, _<_}
+use native.Mathlib.Numerals.{add-one}
+use native.Mathlib.Omega.{arith}
+use borrow.Author.Tests.{eq-eqb, ne-eqb}
+use lib.Dec.{eqb}
+use lib.ListN.{length, getD, take, drop, drop-of-length-le}
+use lib.Seq.{drop-cons}
+use Rattle.basis.specs.Choice.{pick}
+use Rattle.record.specs.Forms.{consumers}
+use Rattle.book.specs.State.{rowOf}
+use Rattle.listing.specs.Letters.{owns}
+
+module _ (l : List ℕ) (i p : ℕ) where
+  opened : i < length l → owns (drop i l) p ≡ pick (eqb (getD l i 0) p) true (owns (drop (i + 1) l) p)
+  unfolding owns
+  opened h = rw (add-one, drop-cons l i 0 h)
+
+  pub owns-here : i < length l → getD l i 0 ≡ p → owns (drop i l) p ≡ true
+  owns-here h e = opened h ∙ rw (eq-eqb (getD l i 0) p e)
+
+  pub owns-further : i < length l → (getD l i 0 ≡ p → ⊥) → owns (drop i l) p ≡ owns (drop (i + 1) l) p
+  owns-further h e = opened h ∙ rw (ne-eqb (getD l i 0) p e)
+
+  pub owns-none : length l ≤ i → owns (drop i l) p ≡ false
+  unfolding owns
+  owns-none h = rw (drop-of-length-le l h)
+
+-- a producer's balances, taken out of all
+pub row-at : (balances : List ℕ) (i : ℕ) → take (i * consumers + consumers - i * consumers) (drop (i * consumers) balances) ≡ rowOf balances (i + 1)
+row-at balances i =
+    let n : i * consumers + consumers - i * consumers ≡ consumers = omega arith in
+    let k : i + 1 - 1 ≡ i = omega arith in
+    rw (n, k)

@@ -1,0 +1,34 @@
+-- `listing::put_run` meets its contract. Assumes nothing.
+use mathlib.Core.Path.{ap}
+use native.Mathlib.Omega.{arith}
+use borrow.Author.Needs.{needs}
+use Rattle.listing.specs.declared.text.Line.{Line}
+use Rattle.listing.specs.Text.{textOf}
+use Rattle.listing.specs.Listing.{listingOf}
+use Rattle.listing.proofs.Putting.{puts-then, puts-as}
+use Rattle.listing.proofs.lines.put_run.Statement.{statement}
+use Rattle.listing.proofs.lines.put_run.Tie as tie
+
+put-stage-requires : tie.Need-put-stage-requires
+put-stage-requires c κs = search needs
+
+numbers-requires : tie.Need-numbers-requires
+numbers-requires c κs = search needs
+
+put-line-requires : tie.Need-put-line-requires
+put-line-requires c κs =
+    let s = c .before .before .before .before .put-stage in
+    omega (arith, ap (λ (l : Line). l .count) (c .numbers .ensures), s .ensures .next, s .ensures .short, s .kept .0)
+
+same-length : tie.Need-same-length
+same-length c = search needs
+
+returns : tie.Need-returns
+unfolding listingOf
+returns c =
+    puts-then (omega arith) (c .before .before .before .before .before .before .before .put-stage .ensures)
+    (puts-as (ap textOf (c .before .before .before .numbers .ensures)) (c .before .before .put-line .ensures))
+
+pub put-run-spec : {M : Type 1} → statement M
+put-run-spec =
+    tie.close (tie.spec put-stage-requires numbers-requires put-line-requires same-length returns)

@@ -1,0 +1,82 @@
+-- `listing::put_amounts` meets its contract. The invariant: the first i amounts stand in the buffer. Assumes nothing.
+use mathlib.Core.Path.{_≡_, refl, sym, ap, _∙_}
+use mathlib.Core.List.{List}
+use Prim.Native.Nat.{ℕ, _+_, _-_, _*_, _≤_, _<_}
+use native.Mathlib.Omega.{arith}
+use borrow.Author.Needs.{needs}
+use lib.ListN.{length, take}
+use Rattle.listing.specs.declared.text.Amount.{Amount}
+use Rattle.listing.specs.Text.{Puts, amountMost, spaced}
+use Rattle.listing.proofs.Putting.{puts-none, puts-as, spaced-none, puts-amount}
+use Rattle.listing.proofs.text.put_amounts.Statement.{statement}
+use Rattle.listing.proofs.text.put_amounts.Tie as tie
+
+abbrev Inv-loop : tie.InvT-loop
+Inv-loop out₀ at count amounts place₀ i₀ out place i =
+    (i ≤ count) × (length out ≡ length out₀) × Puts (i * amountMost) (spaced (take i amounts)) out₀ at place out
+
+abbrev μ-loop : tie.MeasureT-loop
+μ-loop out₀ at count amounts place₀ i₀ out place i = count - i
+
+three : (c : tie.Start Inv-loop μ-loop) → length (c .args .t4) ≡ 3
+three c = search needs
+
+-- src/text.rt:69:5
+loop-holds : tie.Need-loop-holds Inv-loop μ-loop
+loop-holds c = (omega arith, refl, puts-as (sym spaced-none) (puts-none (c .before .args .out .now) (c .before .args .at)))
+
+-- src/text.rt:70:22
+mul-amount : tie.Need-mul-amount Inv-loop μ-loop
+mul-amount c = omega arith
+
+-- src/text.rt:70:22
+array-copy-out-amount : tie.Need-array-copy-out-amount Inv-loop μ-loop
+array-copy-out-amount c = omega arith
+
+-- src/text.rt:71:9
+put-amount-requires : tie.Need-put-amount-requires Inv-loop μ-loop
+put-amount-requires c κs = omega (arith, c .before .before .before .loop .inv .2 .next, c .before .before .before .loop .inv .2 .short)
+
+-- src/text.rt:72:9
+add-i : tie.Need-add-i Inv-loop μ-loop
+add-i c = omega arith
+
+-- src/text.rt:69:5
+loop-less : tie.Need-loop-less Inv-loop μ-loop
+loop-less c = omega arith
+
+-- src/text.rt:69:5
+loop-again : tie.Need-loop-again Inv-loop μ-loop
+loop-again c =
+    let l = c .before .before .before .before .before .before .loop in
+    let a = c .before .before .before .before .before .before .before .before .args in (
+      omega arith,
+      omega (arith, c .before .before .put-amount .kept .0),
+      puts-amount (a .t4) (record { plus = 0; minus = 0 }) (l .i) (omega (arith, three (c .before .before .before .before .before .before .before .before))) (omega arith) (l .inv .2) (c .before .before .put-amount .ensures),
+    )
+
+-- src/text.rt:58:1
+same-length : tie.Need-same-length Inv-loop μ-loop
+same-length c = omega arith
+
+-- src/text.rt:58:1
+returns : tie.Need-returns Inv-loop μ-loop
+returns c =
+    let n : c .before .loop .i ≡ c .before .before .before .args .count = omega arith in
+    rw n at (c .before .loop .inv .2)
+
+pub put-amounts-spec : {M : Type 1} → statement M
+put-amounts-spec =
+    tie.close
+    (tie.spec
+    Inv-loop
+    μ-loop
+    loop-holds
+    mul-amount
+    array-copy-out-amount
+    put-amount-requires
+    add-i
+    loop-less
+    loop-again
+    same-length
+    returns)

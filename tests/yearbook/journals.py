@@ -1,0 +1,94 @@
+#!/usr/bin/env python3
+"""journals.py JOURNAL DIR: writes journals that no text stands for into DIR, named NAME.journal.
+
+Case J (JOURNAL) cut behind each byte, with unknown marks and with odd counts; the largest input of 65,536 bytes and one of
+65,537; a listing with every line there can be."""
+import struct
+import sys
+
+LIMIT = 65536
+
+
+def year():
+    return b"YR" + struct.pack("<HHB", 720, 120, 4)
+
+
+def unit(number, producer, kind=1, flags=17, pic=0):
+    return b"UN" + struct.pack("<BBBBIIIII", number, producer, kind, flags, pic, 0, 0, 0, 0)
+
+
+def test(number, readings, tc=4, ending=0, component=0, count=None):
+    count = len(readings) if count is None else count
+    return b"TS" + struct.pack("<BBBBB", number, component, ending, tc, count) + struct.pack(f"<{len(readings)}I", *readings)
+
+
+def availability(number):
+    return b"AV" + struct.pack("<BBIIII", number, 0, 1, 0, 0, 0)
+
+
+def declare(consumer, d, a):
+    return b"DM" + struct.pack("<BII", consumer, d, a)
+
+
+def fix(dmp):
+    return b"FX" + struct.pack("<I", dmp)
+
+
+def commit(producer, consumer, q):
+    return b"CM" + struct.pack("<BBI", producer, consumer, q)
+
+
+def meter(consumer, dreal):
+    return b"MT" + struct.pack("<BI", consumer, dreal)
+
+
+def close(p):
+    return b"CL" + struct.pack("<H", p)
+
+
+def widest():
+    """every unit, producer and consumer, with figures as large as they get"""
+    most = [750000] * 4
+    calls = [year()]
+    for u in range(1, 49):
+        calls += [unit(u, 1 + (u - 1) % 16), test(u, most), availability(u)]
+    calls += [declare(c, 3000000 if c % 2 else 1, 3000000) for c in range(1, 65)]
+    calls += [fix(3000000)]
+    calls += [commit(p, 1 + p % 64, 3000000) for p in range(1, 17) for _ in range(3)]
+    calls += [meter(c, 3000000 if c % 3 else 0) for c in range(1, 65)]
+    return b"".join(calls) + close(2500)
+
+
+def filled(start, record, size):
+    """start and records behind it up to a size, the last one cut"""
+    return (start + record * ((size - len(start)) // len(record) + 1))[:size]
+
+
+def journals(j):
+    yield "empty", b""
+    for n in range(1, len(j)):
+        yield f"cut-{n:03}", j[:n]
+    for mark in (b"\0\0", b"yr", b"RY", b"ZZ", b"YR"[::-1]):
+        yield f"mark-{mark.hex()}", j + mark + j
+    yield "byte-behind", j + b"Y"
+    yield "marks-first", b"\0\0" + j
+    yield "count-97", year() + unit(1, 1) + test(1, [1] * 97, tc=96) + declare(1, 1, 1)
+    yield "count-255", year() + unit(1, 1) + test(1, [1] * 255, tc=96) + declare(1, 1, 1)
+    yield "count-255-cut", year() + unit(1, 1) + test(1, [1] * 254, tc=96, count=255)
+    yield "widest", widest()
+    yield "largest", filled(widest()[:-4], meter(1, 1), LIMIT)
+    yield "largest-whole", filled(year() + declare(1, 1, 1) + fix(1), meter(1, 1), LIMIT - (LIMIT - 24) % 7)
+    yield "too-long", filled(widest()[:-4], meter(1, 1), LIMIT + 1)
+    yield "far-too-long", filled(year(), year(), 3 * LIMIT)
+
+
+def main():
+    source, folder = sys.argv[1:]
+    with open(source, "rb") as file:
+        j = file.read()
+    for name, data in journals(j):
+        with open(f"{folder}/{name}.journal", "wb") as out:
+            out.write(data)
+
+
+main()
