@@ -46,18 +46,18 @@ extern "C" {
  *   journal_len  their length in bytes, of any size
  *   listing      receives the listing
  *   listing_len  the length of listing in bytes
- *   length       receives the length of the listing in bytes
+ *   written      receives the length of the listing in bytes
  *
  * Returns:
  *
  *   YEARBOOK_SHORT  listing_len is less than the length of the listing
- *   YEARBOOK_OK     the first *length bytes of listing hold the listing
+ *   YEARBOOK_OK     the first *written bytes of listing hold the listing
  *
  * Bytes of listing behind the text are kept. Unless YEARBOOK_OK is returned,
- * no byte of listing is written, and *length is left as it was. The journal is
+ * no byte of listing is written, and *written is left as it was. The journal is
  * only read.
  *
- * Each pointer must be valid for its length; any alignment will do, but length
+ * Each pointer must be valid for its length; any alignment will do, but written
  * must be aligned for its type. With length 0 the pointer is not used and may
  * be NULL: an empty journal has the listing "R 0 0 0" and a line feed, and an
  * empty listing buffer meets YEARBOOK_SHORT. The buffers must not overlap.
@@ -68,7 +68,7 @@ extern "C" {
  */
 uint32_t yearbook_list(const uint8_t *journal, size_t journal_len,
                        uint8_t *listing, size_t listing_len,
-                       uint64_t *length);
+                       uint64_t *written);
 
 #ifdef __cplusplus
 }

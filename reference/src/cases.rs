@@ -108,7 +108,7 @@ impl PlantCase {
 
 /// 01 "Efficient offer" (2.2.1 c, 2.2.2): the chosen year and each unit's efficient offer.
 fn efficient(numbers: &[u64]) -> Option<String> {
-    if !numbers.len().is_multiple_of(2) || numbers.len() > 2 * UNITS {
+    if numbers.len() % 2 != 0 || numbers.len() > 2 * UNITS {
         return None;
     }
     let pairs = numbers.chunks_exact(2);

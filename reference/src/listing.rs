@@ -25,7 +25,7 @@ pub fn listing(run: &Run) -> Vec<u8> {
 }
 
 /// 01 "Journal in, listing out": U, P, D in stages firm and closed, S and T in closed, R always.
-fn write_lines(run: &Run, lines: &mut Vec<u8>) -> io::Result<()> {
+pub fn write_lines(run: &Run, lines: &mut impl Write) -> io::Result<()> {
     let stage = run.book.stage;
     if matches!(stage, Stage::Firm | Stage::Closed) {
         write_offers(&run.book, lines)?;
@@ -38,7 +38,7 @@ fn write_lines(run: &Run, lines: &mut Vec<u8>) -> io::Result<()> {
 }
 
 /// 01 "Journal in, listing out", U and P: enrolled units, and producers with a unit.
-fn write_offers(book: &Book, lines: &mut Vec<u8>) -> io::Result<()> {
+fn write_offers(book: &Book, lines: &mut impl Write) -> io::Result<()> {
     let mut with_unit = [false; PRODUCERS];
     for plant in book.plants.iter().flatten() {
         writeln!(lines, "U {} {} {}", plant.unit.unit, plant.offer, plant.efficient)?;
@@ -53,7 +53,7 @@ fn write_offers(book: &Book, lines: &mut Vec<u8>) -> io::Result<()> {
 }
 
 /// 01 "Journal in, listing out", D: declared consumers and firm demands.
-fn write_demands(book: &Book, lines: &mut Vec<u8>) -> io::Result<()> {
+fn write_demands(book: &Book, lines: &mut impl Write) -> io::Result<()> {
     for (place, consumer) in book.consumers.iter().enumerate() {
         if let Some(consumer) = consumer {
             writeln!(lines, "D {} {}", place + 1, consumer.firm)?;
@@ -63,7 +63,7 @@ fn write_demands(book: &Book, lines: &mut Vec<u8>) -> io::Result<()> {
 }
 
 /// 01 "Journal in, listing out", S and T: ADF and cents of declared consumers, and the sums.
-fn write_settlement(book: &Book, lines: &mut Vec<u8>) -> io::Result<()> {
+fn write_settlement(book: &Book, lines: &mut impl Write) -> io::Result<()> {
     let settlement = &book.settlement;
     for (place, consumer) in book.consumers.iter().enumerate() {
         if consumer.is_some() {

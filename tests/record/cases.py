@@ -1,5 +1,6 @@
 #!/usr/bin/env python3
-"""Writes the items of crates/record_cases/stdin to standard output: a length of two bytes, low byte first, and as many bytes."""
+"""cases.py [all]: writes the items of crates/record_cases/stdin to standard output: a length of two bytes, low byte first, and as many bytes.
+With the word `all`, every pair of bytes stands where otherwise only the marks that matter do."""
 import sys
 
 POWER, ENERGY, MINUTES = 3_000_000, 4_000_000_000, 1_052_640
@@ -21,6 +22,9 @@ TABLE = {
     "meter": (b"\x4d\x54", [CONSUMER, (4, 0, POWER)]),
     "close": (b"\x43\x4c", [(2, 1, 2500)]),
 }
+
+# the marks that document 02 gives to records of requests, unknown until the request has landed
+LATER = ["4154", "646d", "636d", "726c", "6d74", "6174", "5947", "4c56", "5450"]
 
 # values in range of each call; the second unit is of kind 2, which alone uses PPR
 BASE = {
@@ -164,15 +168,34 @@ def any_bytes():
             yield TABLE[call][0] + bytes(body)
 
 
-def items():
+def every_mark():
+    for mark in range(65_536):
+        yield mark.to_bytes(2, "big")
+
+
+def marks_that_matter():
+    """Known marks and later ones, with their bytes swapped; what differs from them by 1 or by one bit in one byte; each pair of a first
+    and a second byte of theirs; and each of these bytes beside 00 and FF."""
+    marks = [mark for mark, _ in TABLE.values()] + [bytes.fromhex(mark) for mark in LATER]
+    chosen = set(marks)
+    for a, b in marks:
+        chosen.add(bytes([b, a]))
+        for other in (a - 1, a + 1, *(a ^ 1 << k for k in range(8))):
+            chosen.add(bytes([other, b]))
+        for other in (b - 1, b + 1, *(b ^ 1 << k for k in range(8))):
+            chosen.add(bytes([a, other]))
+    chosen |= {bytes([a, b]) for a in {m[0] for m in marks} | {0, 255} for b in {m[1] for m in marks} | {0, 255}}
+    yield from sorted(chosen)
+
+
+def items(marks):
     yield b""
     for b in range(256):
         yield bytes([b])
-    for mark in range(65_536):
-        yield mark.to_bytes(2, "big")
+    yield from marks()
     for group in (fields_at_their_ends, truncations, with_more_behind, kinds_and_flags, readings, replies, case_j, any_bytes):
         yield from group()
 
 
-for item in items():
+for item in items(every_mark if sys.argv[1:] == ["all"] else marks_that_matter):
     sys.stdout.buffer.write(len(item).to_bytes(2, "little") + item)

@@ -3,8 +3,8 @@ use mathlib.Core.Path.{_≡_, refl}
 use mathlib.Core.Bool.{Bool, true, false}
 use Prim.Native.Nat.{ℕ, zero, suc, _≤_}
 use native.Mathlib.Omega.{arith}
-use borrow.Author.Tests.{leb-true}
-use lib.Dec.{leb}
+use borrow.Author.Tests.{leb-true, eqb-true, eqb-false}
+use lib.Dec.{leb, eqb}
 use Rattle.basis.specs.Choice.{pick, between}
 
 -- the number suc k was not given: the test failed, and the rest of the chain gave 0
@@ -30,3 +30,11 @@ between-true low high x e =
 pub pick-same : {A : Type 0} (t : Bool) (a : A) → pick t a a ≡ a
 pick-same true a = refl
 pick-same false a = refl
+
+-- a number that is handed on was 0, and so was what came behind it
+pub handed-on : (n rest : ℕ) → pick (eqb n 0) rest n ≡ 0 → (n ≡ 0) × (rest ≡ 0)
+handed-on n rest e = go (eqb n 0) refl e
+  where
+    go : (t : Bool) → eqb n 0 ≡ t → pick t rest n ≡ 0 → (n ≡ 0) × (rest ≡ 0)
+    go true q h = (eqb-true n 0 q, h)
+    go false q h = absurd (eqb-false n 0 q h)

@@ -3,3 +3,5 @@ pub mod Choice
 pub mod Sums
 pub mod Tables
 pub mod Numbers
+pub mod Answers
+pub mod Filling

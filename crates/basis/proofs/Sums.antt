@@ -9,7 +9,7 @@ use native.Mathlib.Numerals.{add-one}
 use native.Mathlib.Omega.{arith}
 use borrow.Author.Tests.{leb-true, le-leb}
 use lib.Dec.{leb}
-use lib.ListN.{length, getD, set, take, drop, drop-of-length-le}
+use lib.ListN.{length, getD, set, take, drop, drop-of-length-le, replicate}
 use lib.Seq.{drop-cons}
 use Rattle.basis.specs.Choice.{pick}
 use Rattle.basis.specs.Sums.{sum, sumUp, allAtMost}
@@ -22,6 +22,12 @@ sum-nil = refl
 pub sum-cons : (x : ℕ) (xs : List ℕ) → sum (x ∷ xs) ≡ x + sum xs
 unfolding sum
 sum-cons x xs = refl
+
+-- a list of zeros
+pub sum-zeros : (n : ℕ) → sum (replicate n 0) ≡ 0
+unfolding sum
+sum-zeros zero = refl
+sum-zeros (suc n) = omega (arith, sum-zeros n)
 
 pub sum-append : (a b : List ℕ) → sum (a ++ b) ≡ sum a + sum b
 unfolding sum

@@ -1,12 +1,3 @@
--- Laws of Level Year.
-pub mod Ranged
-pub mod Placed
-pub mod Refusals
-pub mod Rows
+-- Laws of the book.
 pub mod Stored
-pub mod Owned
 pub mod Settled
-pub mod Filling
-pub mod DivisionLaws
-pub mod FixLaws
-pub mod CloseLaws

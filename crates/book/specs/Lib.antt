@@ -1,10 +1,4 @@
--- Definitions of Level Year, in the order of document 01.
-pub mod State
-pub mod Gathering
-pub mod Fix
-pub mod Firm
-pub mod Close
+-- Any call on a book, lists of calls, and the steps by which a call is settled.
 pub mod Step
 pub mod Lists
-pub mod Changes
-pub mod Questions
+pub mod Settlement

@@ -4,8 +4,8 @@ use Prim.Native.Nat.{ℕ}
 use lib.Dec.{eqb}
 use Rattle.basis.specs.Choice.{pick}
 use Rattle.record.specs.declared.calls.Call.{Call}
-use Rattle.book.specs.declared.state.Book.{Book}
-use Rattle.book.specs.declared.state.Reply.{Reply}
+use Rattle.state.specs.declared.kept.Book.{Book}
+use Rattle.state.specs.declared.kept.Reply.{Reply}
 use Rattle.book.specs.Step.{stepOf}
 
 -- a call, and the readings that are lent with it

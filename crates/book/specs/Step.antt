@@ -3,12 +3,12 @@ use mathlib.Core.List.{List}
 use Prim.Native.Nat.{ℕ}
 use Rattle.record.specs.declared.calls.Call.{Call}
 use Rattle.record.specs.declared.calls.Call.the-variants as call
-use Rattle.book.specs.declared.state.Book.{Book}
-use Rattle.book.specs.declared.state.Reply.{Reply}
-use Rattle.book.specs.Gathering.{yearOf, unitOf, testReply, availabilityReply, declareOf}
-use Rattle.book.specs.Fix.{fixOf}
-use Rattle.book.specs.Firm.{commitOf, releaseOf, meterOf}
-use Rattle.book.specs.Close.{closeOf}
+use Rattle.state.specs.declared.kept.Book.{Book}
+use Rattle.state.specs.declared.kept.Reply.{Reply}
+use Rattle.decision.specs.Gathering.{yearOf, unitOf, testReply, availabilityReply, declareOf}
+use Rattle.fix.specs.Fix.{fixOf}
+use Rattle.decision.specs.Firm.{commitOf, releaseOf, meterOf}
+use Rattle.close.specs.Close.{closeOf}
 
 unfoldable pub stepOf : Book → Call → List ℕ → Reply
 stepOf b (call.Year nhrm nhmd ndhmd) readings = yearOf b nhrm nhmd ndhmd

@@ -1,16 +1,17 @@
 // A function for each call, and one for any.
 ghost use mathlib.Core.Path.{_≡_};
-ghost use Rattle.book.specs.Gathering.{yearOf, unitOf, testReply, availabilityReply, declareOf};
-ghost use Rattle.book.specs.Fix.{fixOf};
-ghost use Rattle.book.specs.Firm.{commitOf, releaseOf, meterOf};
-ghost use Rattle.book.specs.Close.{closeOf};
+ghost use Rattle.decision.specs.Gathering.{unitOf, testReply, availabilityReply, declareOf};
+ghost use Rattle.decision.specs.Firm.{commitOf, releaseOf, meterOf};
 ghost use Rattle.book.specs.Step.{stepOf};
-use crate::decision::decide;
-use crate::places::places_of;
+pub use crate::begun::year;
 use crate::settlement::settle;
-use crate::state::Book;
-use crate::state::Reply;
+pub use close::close;
+use decision::decide;
+use decision::places_of;
+pub use fix::fix;
 use record::Call;
+use state::Book;
+use state::Reply;
 
 // Any call, with the readings lent to a test.
 pub fn step(book: Book, call: Call, readings: &[u8]) -> Reply
@@ -32,13 +33,6 @@ pub fn step(book: Book, call: Call, readings: &[u8]) -> Reply
         readings,
     );
     settle(book, places, change)
-}
-
-// A year: hours of its stage of greatest thermal requirement, its hours of maximum demand, and those per day.
-pub fn year(book: Book, nhrm: u32, nhmd: u32, ndhmd: u32) -> Reply
-    ensures { λ r. ⌜ r ≡ yearOf book nhrm nhmd ndhmd ⌝ }
-{
-    step(book, Call::Year { nhrm, nhmd, ndhmd }, b"")
 }
 
 // A unit of a producer, with the fields of its record.
@@ -122,13 +116,6 @@ pub fn declare(book: Book, consumer: u32, d: u32, a: u32) -> Reply
     step(book, Call::Declare { consumer, d, a }, b"")
 }
 
-// The fix at a projected maximum demand DMP, kW.
-pub fn fix(book: Book, dmp: u32) -> Reply
-    ensures { λ r. ⌜ r ≡ fixOf book dmp ⌝ }
-{
-    step(book, Call::Fix { dmp }, b"")
-}
-
 // A contract of q kW.
 pub fn commit(book: Book, producer: u32, consumer: u32, q: u32) -> Reply
     ensures { λ r. ⌜ r ≡ commitOf book producer consumer q ⌝ }
@@ -158,11 +145,4 @@ pub fn meter(book: Book, consumer: u32, dreal: u32) -> Reply
     ensures { λ r. ⌜ r ≡ meterOf book consumer dreal ⌝ }
 {
     step(book, Call::Meter { consumer, dreal }, b"")
-}
-
-// The close at P cents per kW-month.
-pub fn close(book: Book, p: u32) -> Reply
-    ensures { λ r. ⌜ r ≡ closeOf book p ⌝ }
-{
-    step(book, Call::Close { p }, b"")
 }

@@ -1,22 +1,20 @@
 // A change settled in the book.
 ghost use mathlib.Core.Path.{_≡_};
 ghost use lib.ListN.{set};
-ghost use Rattle.book.specs.State.{withUnits, withConsumers, withBalances};
-ghost use Rattle.book.specs.Gathering.{begun};
-ghost use Rattle.book.specs.Changes.{accepted, settledOf};
-use crate::changes::Change;
-use crate::changes::Places;
-use crate::close::close_book;
-use crate::fix::fix_book;
-use crate::state::Book;
-use crate::state::CELLS;
-use crate::state::CONSUMERS;
-use crate::state::Consumer;
-use crate::state::Reply;
-use crate::state::Stage;
-use crate::state::Unit;
-use plant::Hours;
-use plant::UNITS;
+ghost use Rattle.state.specs.State.{withUnits, withConsumers, withBalances};
+ghost use Rattle.book.specs.Settlement.{accepted, settledOf};
+use crate::begun::year;
+use close::close;
+use decision::Change;
+use decision::Places;
+use fix::fix;
+use quantities::CONSUMERS;
+use quantities::UNITS;
+use state::Book;
+use state::CELLS;
+use state::Consumer;
+use state::Reply;
+use state::Unit;
 
 // Accepted, with a balance at a cell; outside the book nothing changes.
 fn with_balance(book: Book, cell: usize, balance: u32) -> Reply
@@ -63,40 +61,8 @@ fn with_unit(book: Book, at: usize, u: Unit) -> Reply
     }
 }
 
-// The book of a year that begins.
-pub fn begin(book: Book, hours: Hours) -> Book
-    ensures { λ r. ⌜ r ≡ begun book (hours .nhrm) (hours .nhmd) (hours .ndhmd) ⌝ }
-{
-    let units = book.units;
-    let consumers = book.consumers;
-    let balances = book.balances;
-    let offers = book.offers;
-    let efficient = book.efficient;
-    let limits = book.limits;
-    let adjusted = book.adjusted;
-    let charges = book.charges;
-    let credits = book.credits;
-    Book {
-        stage: Stage::Gathering,
-        hours,
-        units,
-        consumers,
-        balances,
-        dmp: book.dmp,
-        offers,
-        efficient,
-        limits,
-        adjusted,
-        charges,
-        credits,
-        charged: book.charged,
-        credited: book.credited,
-        undistributed: book.undistributed,
-    }
-}
-
 // The number and the book after a change at these places.
-pub fn settle(book: Book, places: Places, change: Change) -> Reply
+pub(crate) fn settle(book: Book, places: Places, change: Change) -> Reply
     ensures { λ r. ⌜ r ≡ settledOf book places change ⌝ }
 {
     match change {
@@ -104,11 +70,8 @@ pub fn settle(book: Book, places: Places, change: Change) -> Reply
         Change::ToBalance(balance) => with_balance(book, places.cell, balance),
         Change::ToConsumer(x) => with_consumer(book, places.consumer, x),
         Change::ToUnit(u) => with_unit(book, places.unit, u),
-        Change::ToGathering(hours) => Reply {
-            number: 0,
-            book: begin(book, hours),
-        },
-        Change::ToFirm(dmp) => fix_book(book, dmp),
-        Change::ToClosed(p) => close_book(book, p),
+        Change::ToGathering(hours) => year(book, hours.nhrm, hours.nhmd, hours.ndhmd),
+        Change::ToFirm(dmp) => fix(book, dmp),
+        Change::ToClosed(p) => close(book, p),
     }
 }

@@ -1,23 +1,23 @@
 // Runs the journal of standard input, up to 65,536 bytes, and writes the place and the number of each record read, the stop, and what
 // the book then answers, in the form of the listing.
-use book::Adjustment;
-use book::Book;
-use book::Declaration;
-use book::ProducerTotals;
-use book::Signed;
-use book::Stage;
-use book::UnitOffers;
 use libc::STDIN_FILENO;
 use libc::STDOUT_FILENO;
+use questions::Adjustment;
+use questions::ProducerTotals;
+use questions::Signed;
+use questions::UnitOffers;
 use record::Call;
 use record::Read;
+use state::Book;
+use state::Declaration;
+use state::Stage;
 
 // The numbers of units, producers and consumers.
-const UNITS: u32 = 48;
+const UNITS: u32 = quantities::UNITS as u32;
 
-const PRODUCERS: u32 = 16;
+const PRODUCERS: u32 = quantities::PRODUCERS as u32;
 
-const CONSUMERS: u32 = 64;
+const CONSUMERS: u32 = quantities::CONSUMERS as u32;
 
 // As many turns as a journal of one byte a record has, and one for its end.
 const TURNS: u32 = 65_537;
@@ -132,7 +132,7 @@ fn run_of(journal: &[u8]) -> Run {
 }
 
 fn show_unit(book: Book, unit: u32) {
-    match book::unit_offers(book, unit) {
+    match questions::unit_offers(book, unit) {
         UnitOffers::NotEnrolled => {}
         UnitOffers::Offers { firm, efficient } => {
             put(b"U");
@@ -153,7 +153,7 @@ fn show_units(book: Book) {
 }
 
 fn show_producer(book: Book, producer: u32) {
-    match book::producer_totals(book, producer) {
+    match questions::producer_totals(book, producer) {
         ProducerTotals::WithoutUnit => {}
         ProducerTotals::Totals { limit, committed } => {
             put(b"P");
@@ -174,7 +174,7 @@ fn show_producers(book: Book) {
 }
 
 fn show_demand(book: Book, consumer: u32) {
-    match book::declaration_of(book, consumer) {
+    match questions::declaration_of(book, consumer) {
         Declaration::Undeclared => {}
         Declaration::Declared(figures) => {
             put(b"D");
@@ -203,7 +203,7 @@ fn put_cents(charge: u64, credit: u64) {
 }
 
 fn show_adjustment(book: Book, consumer: u32) {
-    match book::adjustment_of(book, consumer) {
+    match questions::adjustment_of(book, consumer) {
         Adjustment::Unsettled => {}
         Adjustment::Settled {
             adf,
@@ -228,7 +228,7 @@ fn show_adjustments(book: Book) {
 }
 
 fn show_totals(book: Book) {
-    let totals = book::close_totals(book);
+    let totals = questions::close_totals(book);
     put(b"T");
     put_number(totals.charged);
     put_number(totals.credited);
@@ -244,7 +244,7 @@ fn show_firm(book: Book) {
 
 // What a book of its stage has to show.
 fn show_book(book: Book) {
-    match book::stage_of(book) {
+    match questions::stage_of(book) {
         Stage::Blank => {}
         Stage::Gathering => {}
         Stage::Firm => show_firm(book),

@@ -1,9 +1,9 @@
 -- Cells and rows of balances: each pair of a producer and a consumer has one cell, in its producer's row.
 use mathlib.Core.Path.{_≡_, refl, sym, ap, _∙_}
 use mathlib.Core.Bool.{Bool, true, false}
-use mathlib.Core.List.{List, [], _∷_}
-use Prim.Native.Nat.{ℕ, zero, suc, _+_, _-_, _*_, _≤_, _<_}
-use native.Mathlib.Nat.{lt-of-not-le, mul-le-mul-right, suc-mul, add-assoc}
+use mathlib.Core.List.{List}
+use Prim.Native.Nat.{ℕ, suc, _+_, _-_, _*_, _≤_, _<_}
+use native.Mathlib.Nat.{mul-le-mul-right, suc-mul}
 use native.Mathlib.Omega.{arith}
 use borrow.Author.Tests.{leb-true, leb-false}
 use lib.Dec.{leb}
@@ -11,8 +11,8 @@ use lib.ListN.{length, getD, set, take, drop, length-take, length-drop}
 use lib.Seq.{drop-set-lt, drop-set-add, take-set-lt, take-set-le, getD-take, getD-drop}
 use Rattle.basis.specs.Sums.{sum}
 use Rattle.basis.proofs.Sums.{sum-set}
-use Rattle.record.specs.Forms.{producers, consumers}
-use Rattle.book.specs.State.{cells, cellOf, rowOf}
+use Rattle.quantities.specs.Limits.{producers, consumers}
+use Rattle.state.specs.State.{cells, cellOf, rowOf}
 
 -- rows of n cells: the row before another ends where that begins
 row-before : (n a b : ℕ) → a < b → a * n + n ≤ b * n

@@ -3,41 +3,36 @@ use mathlib.Core.Path.{_≡_, refl, sym, ap, _∙_}
 use mathlib.Core.Bool.{Bool, true, false}
 use mathlib.Core.List.{List, [], _∷_, map}
 use mathlib.Core.Logic.{_⊎_, inl, inr}
-use Prim.Native.Nat.{ℕ, zero, suc, _+_, _-_, _*_, _/_, _≤_, _<_, zero-le}
-use native.Mathlib.Nat.{mul-le-mul, mul-le-mul-right, le-trans, le-refl}
+use Prim.Native.Nat.{ℕ, zero, suc, _-_, _*_, _≤_, _<_, zero-le}
+use native.Mathlib.Nat.{mul-le-mul}
 use native.Mathlib.Omega.{arith}
-use borrow.Author.Tests.{le-ltb, ne-eqb, eq-eqb, eqb-true, eqb-false}
-use lib.Dec.{eqb, ltb, lit≤}
+use lib.Dec.{ltb}
 use lib.ListN.{length, getD, length-map}
 use Rattle.basis.specs.Choice.{pick}
 use Rattle.basis.specs.Sums.{sum, allAtMost}
-use Rattle.basis.specs.Tables.{tab}
 use Rattle.basis.proofs.Choice.{peel-not}
 use Rattle.basis.proofs.Sums.{sum-at-most, all-at-most, at-most-all}
 use Rattle.basis.proofs.Tables.{length-tab, getD-tab}
 use Rattle.share.specs.Division.{divisionNumber}
-use Rattle.share.specs.Limits.{greatestTotal, greatestWeight, mostWeights}
-use Rattle.share.proofs.Accepted.{Accepted, enough}
-use Rattle.plant.specs.Ranges.{greatestPower}
+use Rattle.quantities.specs.Limits.{greatestTotal, greatestWeight, greatestPower, greatestPrice, consumers}
+use Rattle.share.proofs.Accepted.{enough}
+use Rattle.record.proofs.Ranged.{Numbered, close-ranged}
 use Rattle.record.specs.Calls.{partsOf}
-use Rattle.record.specs.Forms.{formOf, consumers}
 use Rattle.record.specs.declared.calls.Call.the-variants as call
-use Rattle.record.specs.declared.forms.Mark.the-variants as mark
-use Rattle.book.specs.declared.state.Stage.the-variants.{Firm, Closed}
-use Rattle.book.specs.declared.state.Declaration.{Declaration}
-use Rattle.book.specs.declared.state.Declaration.the-variants.{Undeclared, Declared}
-use Rattle.book.specs.declared.state.Consumer.{Consumer}
-use Rattle.book.specs.declared.state.Book.{Book}
-use Rattle.book.specs.Fix.{weightsOf}
-use Rattle.book.specs.Close.{adjustedOf, adjustedIn, surplusBy, chargeBy, surplusesIn, chargesIn, creditsOf, undistributedOf, closeNumber, closed}
+use Rattle.record.specs.Names as name
+use Rattle.state.specs.declared.kept.Stage.the-variants.{Firm}
+use Rattle.state.specs.declared.kept.Declaration.{Declaration}
+use Rattle.state.specs.declared.kept.Declaration.the-variants.{Undeclared, Declared}
+use Rattle.state.specs.declared.kept.Consumer.{Consumer}
+use Rattle.state.specs.declared.kept.Book.{Book}
+use Rattle.fix.specs.Fix.{weightsOf}
+use Rattle.close.specs.Close.{adjustedOf, adjustedIn, surplusBy, chargeBy, surplusesIn, chargesIn, creditsOf, undistributedOf, closeRest, closeNumber, closeNumberBy, figuresOf, closed}
 use Rattle.book.specs.Lists.{Event}
-use Rattle.claims.specs.History.{Last, never, last, isA, fieldIn, lastThat, begunIn, fixedIn, closedIn, dmpIn, priceIn, declaredIn}
+use Rattle.claims.specs.History.{Last, never, last, isA, lastThat, begunIn, fixedIn, closedIn, dmpIn, priceIn, declaredIn}
 use Rattle.claims.specs.Figures.{demandIn, declarationBy, consumerIn, consumersIn, adjustedDemandsIn, positiveAdjustmentsIn, allChargesIn, allCreditsIn, undistributedIn}
-use Rattle.claims.proofs.Tables.{map-tab}
-use Rattle.claims.proofs.Ranges.{field-in-range}
-use Rattle.claims.proofs.Other.{last-this, hours-kept, dmp-kept, consumers-kept}
-use Rattle.claims.proofs.Kept.{firm-is, Passed, passed, Money, Kept}
-use Rattle.claims.proofs.Others.{plants-other, people-other, contracts-other, firm-other}
+use Rattle.claims.proofs.SameFigures.{last-this, hours-as-before, dmp-as-before}
+use Rattle.claims.proofs.Kept.{firm-is, Passed, accepted-shows, Kept}
+use Rattle.claims.proofs.Untouched.{same-consumers, plants-other, consumers-other, contracts-other, firm-other}
 use Rattle.claims.proofs.Demands.{demand-at-most}
 
 module _ {A : Type 0} where
@@ -47,14 +42,18 @@ module _ {A : Type 0} where
   mapped-at-most g (x ∷ l) m h zero = h 0 (omega arith) x
   mapped-at-most g (x ∷ l) m h (suc i) = mapped-at-most g l m (λ j p d. h (suc j) (omega arith) d) i
 
+-- what one consumer is charged at most
+abbrev greatestCharge : ℕ
+greatestCharge = greatestPower * greatestPrice * 12
+
 -- a charge is bounded by its adjustment and the price
-charge-at-most : (p dfa : ℕ) (d : Declaration) → dfa ≤ greatestPower → p ≤ 2500 → chargeBy p dfa d ≤ 90000000000
+charge-at-most : (p dfa : ℕ) (d : Declaration) → dfa ≤ greatestPower → p ≤ greatestPrice → chargeBy p dfa d ≤ greatestCharge
 charge-at-most p dfa Undeclared a b = zero-le
 charge-at-most p dfa (Declared f) a b = go (ltb (100 * f .d) (98 * f .a))
   where
-    go : (t : Bool) → pick t ((dfa - f .df) * p * 12) 0 ≤ 90000000000
+    go : (t : Bool) → pick t ((dfa - f .df) * p * 12) 0 ≤ greatestCharge
     go true =
-        let m = mul-le-mul {n₁ = dfa - f .df} {m₁ = p} {n₂ = greatestPower} {m₂ = 2500} (omega arith) b in omega arith
+        let m = mul-le-mul {n₁ = dfa - f .df} {m₁ = p} {n₂ = greatestPower} {m₂ = greatestPrice} (omega arith) b in omega arith
     go false = zero-le
 
 surplus-at-most : (dfa df m : ℕ) (l : Last) → df ≤ m → surplusBy dfa (declarationBy df l) ≤ m
@@ -65,41 +64,29 @@ module _ (h : List Event) (b : Book) (k : Kept h b) (p : ℕ) (readings : List �
   abbrev close : Event
   close = record { call = call.Close p; readings = readings }
 
-  abbrev allowed : ℕ
-  allowed = pick (allAtMost greatestPower (adjustedIn (b .dmp) (b .consumers))) 0 14
+  shown : Passed (call.Close p) [] Firm (b .stage) (closeRest (b .dmp) (b .consumers))
+  unfolding closeNumberBy
+  shown = accepted-shows (call.Close p) [] Firm (b .stage) (closeRest (b .dmp) (b .consumers)) z
 
-  shown : Passed (call.Close p) [] Firm (b .stage) allowed
-  unfolding closeNumber
-  shown = passed (call.Close p) [] Firm (b .stage) allowed z
-
-  price-range : (1 ≤ p) × (p ≤ 2500)
-  unfolding partsOf formOf
-  price-range = field-in-range (call.Close p) [] (shown .range) 0 (omega arith) (omega arith) (omega arith)
+  price-range : Numbered greatestPrice p
+  price-range = close-ranged p [] (shown .range)
 
   was-firm : (closedIn h ≡ false) × (fixedIn h ≡ true)
   was-firm = firm-is (closedIn h) (fixedIn h) (begunIn h) (sym (k .timing .stage-kept) ∙ shown .stage)
 
-  this : lastThat (isA mark.Close) (close ∷ h) ≡ last close
-  unfolding partsOf formOf
-  this = last-this close h (isA mark.Close) refl
+  this : lastThat (isA name.Close) (close ∷ h) ≡ last close
+  unfolding partsOf
+  this = last-this close h (isA name.Close) refl
 
   now-price : priceIn (close ∷ h) ≡ p
   unfolding partsOf
   now-price = rw this refl
 
-  same-dmp : dmpIn (close ∷ h) ≡ dmpIn h
-  unfolding partsOf formOf
-  same-dmp = dmp-kept close h refl
-
-  same-consumers : consumersIn (close ∷ h) ≡ consumersIn h
-  unfolding partsOf formOf
-  same-consumers = consumers-kept close h refl refl refl
-
   dmp-was : b .dmp ≡ dmpIn (close ∷ h)
-  dmp-was = k .timing .dmp-kept ∙ sym same-dmp
+  dmp-was = k .timing .dmp-kept ∙ sym (dmp-as-before close h refl)
 
   consumers-were : b .consumers ≡ consumersIn (close ∷ h)
-  consumers-were = k .people .consumers-kept ∙ sym same-consumers
+  consumers-were = k .consumers .consumers-kept ∙ sym (same-consumers close h refl)
 
   adjusted-now : adjustedIn (b .dmp) (b .consumers) ≡ adjustedDemandsIn (close ∷ h)
   unfolding adjustedDemandsIn
@@ -134,7 +121,7 @@ module _ (h : List Event) (b : Book) (k : Kept h b) (p : ℕ) (readings : List �
 
   count : length (b .consumers) ≡ consumers
   unfolding consumersIn
-  count = ap length (k .people .consumers-kept) ∙ length-tab (λ i. consumerIn h (suc i)) consumers
+  count = ap length (k .consumers .consumers-kept) ∙ length-tab (λ i. consumerIn h (suc i)) consumers
 
   one-adjusted : (i : ℕ) → i < length (b .consumers) → (d : Consumer) → adjustedOf (b .dmp) (sum (weightsOf (b .consumers))) (getD (b .consumers) i d) ≤ greatestPower
   unfolding adjustedIn
@@ -146,24 +133,24 @@ module _ (h : List Event) (b : Book) (k : Kept h b) (p : ℕ) (readings : List �
       at (x ∷ xs) zero r w = w 0
       at (x ∷ xs) (suc j) r w = at xs j (omega arith) (λ n. w (suc n))
 
-  charge-small : (i : ℕ) → getD (chargesIn p (b .dmp) (b .consumers)) i 0 ≤ 90000000000
+  charge-small : (i : ℕ) → getD (chargesIn p (b .dmp) (b .consumers)) i 0 ≤ greatestCharge
   unfolding chargesIn
   charge-small =
-      mapped-at-most (λ (x : Consumer). chargeBy p (adjustedOf (b .dmp) (sum (weightsOf (b .consumers))) x) (x .declaration)) (b .consumers) 90000000000
-      (λ i q d. charge-at-most p (adjustedOf (b .dmp) (sum (weightsOf (b .consumers))) (getD (b .consumers) i d)) (getD (b .consumers) i d .declaration) (one-adjusted i q d) (price-range .1))
+      mapped-at-most (λ (x : Consumer). chargeBy p (adjustedOf (b .dmp) (sum (weightsOf (b .consumers))) x) (x .declaration)) (b .consumers) greatestCharge
+      (λ i q d. charge-at-most p (adjustedOf (b .dmp) (sum (weightsOf (b .consumers))) (getD (b .consumers) i d)) (getD (b .consumers) i d .declaration) (one-adjusted i q d) (price-range .most))
 
   charges-small : sum (chargesIn p (b .dmp) (b .consumers)) ≤ greatestTotal
   unfolding chargesIn
   charges-small =
       let n : length (chargesIn p (b .dmp) (b .consumers)) ≡ consumers = length-map (b .consumers) (λ (x : Consumer). chargeBy p (adjustedOf (b .dmp) (sum (weightsOf (b .consumers))) x) (x .declaration)) ∙ count in
-      omega (arith, sum-at-most 90000000000 (chargesIn p (b .dmp) (b .consumers)) charge-small, ap (λ m. m * 90000000000) n)
+      omega (arith, sum-at-most greatestCharge (chargesIn p (b .dmp) (b .consumers)) charge-small, ap (λ m. m * greatestCharge) n)
 
   demand-small : (i : ℕ) → i < length (b .consumers) → (d : Consumer) → (dfa : ℕ) → surplusBy dfa (getD (b .consumers) i d .declaration) ≤ greatestWeight
   unfolding consumersIn
   demand-small i q d dfa =
       let e : getD (b .consumers) i d ≡ consumerIn h (suc i) =
-      ap (λ xs. getD xs i d) (k .people .consumers-kept) ∙ getD-tab (λ j. consumerIn h (suc j)) consumers i d (omega (arith, count)) in
-      let m : demandIn h (suc i) ≤ dmpIn h = demand-at-most h (was-firm .1) (k .firm .shared (was-firm .1)) i in
+      ap (λ xs. getD xs i d) (k .consumers .consumers-kept) ∙ getD-tab (λ j. consumerIn h (suc j)) consumers i d (omega (arith, count)) in
+      let m : demandIn h (suc i) ≤ dmpIn h = demand-at-most h (was-firm .1) (k .firm .dmp-shared (was-firm .1)) i in
       rw e (surplus-at-most dfa (demandIn h (suc i)) greatestWeight (declaredIn h (suc i)) (omega (arith, m, k .firm .dmp-small)))
 
   surplus-small : allAtMost greatestWeight (surplusesIn (b .dmp) (b .consumers)) ≡ true
@@ -193,19 +180,19 @@ module _ (h : List Event) (b : Book) (k : Kept h b) (p : ℕ) (readings : List �
       (omega (arith, length-surpluses)))
 
   pub close-kept : Kept (close ∷ h) (closed b p)
-  unfolding closed partsOf formOf
+  unfolding closed figuresOf partsOf
   close-kept =
       record {
         timing =
             record {
               stage-kept = sym (rw this refl);
-              hours-kept = k .timing .hours-kept ∙ sym (hours-kept close h refl);
+              hours-kept = k .timing .hours-kept ∙ sym (hours-as-before close h refl);
               dmp-kept = dmp-was;
             };
-        plants = plants-other close h (b .units) refl refl refl (k .plants);
-        people = people-other close h (b .consumers) refl refl refl (k .people);
-        contracts = contracts-other close h (b .balances) (b .limits) refl refl refl (k .contracts);
-        firm = firm-other close h (b .offers) (b .efficient) (b .limits) refl refl refl refl refl refl (k .firm);
+        plants = plants-other close h refl (k .plants);
+        consumers = consumers-other close h refl (k .consumers);
+        contracts = contracts-other close h refl (k .contracts);
+        firm = firm-other close h refl (k .firm);
         money =
             record {
               adjusted-kept = λ q. adjusted-now;
@@ -214,6 +201,6 @@ module _ (h : List Event) (b : Book) (k : Kept h b) (p : ℕ) (readings : List �
               charged-kept = λ q. refl;
               credited-kept = λ q. refl;
               undistributed-kept = λ q. undistributed-now;
-              divided = λ q. rw (← charges-now, ← surpluses-now) (divides (sum (surplusesIn (b .dmp) (b .consumers))) refl);
+              charges-divided = λ q. rw (← charges-now, ← surpluses-now) (divides (sum (surplusesIn (b .dmp) (b .consumers))) refl);
             };
       }

@@ -2,43 +2,39 @@
 use mathlib.Core.Path.{_≡_, refl, sym, ap, _∙_, subst⁻¹}
 use mathlib.Core.Bool.{Bool, true, false}
 use mathlib.Core.List.{List, [], _∷_}
-use Prim.Native.Nat.{ℕ, zero, suc, _+_, _-_, _≤_, _<_, zero-le}
+use Prim.Native.Nat.{ℕ, zero, suc, _-_, _≤_}
 use native.Mathlib.Nat.{le-refl}
 use native.Mathlib.Omega.{arith}
 use borrow.Author.Tests.{eq-eqb, ne-eqb, eqb-true, eqb-false}
 use lib.Dec.{eqb}
-use lib.ListN.{length, getD, set}
+use lib.ListN.{set}
 use Rattle.basis.specs.Choice.{pick}
 use Rattle.basis.proofs.Choice.{peel-not}
-use Rattle.plant.specs.Power.{fresh, maximumPower, testNumber, testOf, energyOf, measuredOf, afterTest}
+use Rattle.power.specs.Power.{fresh, maximumPower, testNumber, testOf, energyOf, measuredOf, afterTest}
 use Rattle.plant.specs.Availability.{minutes, availabilityNumber, availabilityOf}
-use Rattle.plant.specs.Ranges.{greatestPower}
-use Rattle.plant.specs.Efficient.{units}
-use Rattle.plant.specs.declared.quantity.Kw.{Kw}
-use Rattle.plant.specs.declared.component.Cap.{Cap}
-use Rattle.plant.specs.declared.component.Cap.the-variants.{Free, At}
-use Rattle.plant.specs.declared.component.Availability.the-variants.{Known}
-use Rattle.plant.specs.declared.component.Component.{Component}
+use Rattle.quantities.specs.Limits.{greatestPower, greatestComponent, units}
+use Rattle.power.specs.declared.quantity.Kw.{Kw}
+use Rattle.power.specs.declared.component.Cap.{Cap}
+use Rattle.power.specs.declared.component.Cap.the-variants.{Free, At}
+use Rattle.power.specs.declared.component.Availability.the-variants.{Known}
+use Rattle.power.specs.declared.component.Component.{Component}
 use Rattle.plant.proofs.Results.{test-within-greatest, test-within-cap, availability-keeps-maximum}
+use Rattle.record.proofs.Ranged.{Numbered, TestRanged, test-ranged, AvailabilityRanged, availability-ranged}
 use Rattle.record.specs.Calls.{partsOf}
-use Rattle.record.specs.Forms.{formOf}
 use Rattle.record.specs.declared.calls.Call.the-variants as call
-use Rattle.record.specs.declared.forms.Mark.the-variants as mark
-use Rattle.book.specs.declared.state.Stage.the-variants.{Gathering}
-use Rattle.book.specs.declared.state.Enrolment.{Enrolment}
-use Rattle.book.specs.declared.state.Enrolment.the-variants.{Vacant, Enrolled}
-use Rattle.book.specs.declared.state.Unit.{Unit}
-use Rattle.book.specs.declared.state.Book.{Book}
-use Rattle.book.specs.State.{unitAt}
-use Rattle.book.specs.Gathering.{hasTest, hasAvailability, componentOf, withComponent, capOf, testRest, testedNumber, testedUnit, tested, availabilityRest, availableNumber, availableUnit, available}
+use Rattle.record.specs.Names as name
+use Rattle.state.specs.declared.kept.Stage.the-variants.{Gathering}
+use Rattle.state.specs.declared.kept.Unit.{Unit}
+use Rattle.state.specs.declared.kept.Book.{Book}
+use Rattle.state.specs.State.{unitAt}
+use Rattle.decision.specs.Gathering.{hasTest, hasAvailability, componentOf, withComponent, capOf, testRest, testedNumber, testedUnit, tested, availabilityRest, availableNumber, availableUnit, available}
 use Rattle.book.specs.Lists.{Event}
-use Rattle.claims.specs.History.{Last, never, last, isA, field, about, between, lastThat, fixedIn, closedIn, begunIn, entryBy, entryIn, afterOne, componentIn}
-use Rattle.claims.specs.Figures.{unitIn, unitsIn}
-use Rattle.claims.proofs.Ranges.{field-in-range}
-use Rattle.claims.proofs.Other.{unit-is, about-kept, entry-kept, component-another}
-use Rattle.claims.proofs.Kept.{gathering-is, Passed, passed, Within, Plants, Kept}
-use Rattle.claims.proofs.Others.{timing-other, people-other, contracts-other, firm-before, money-before}
-use Rattle.claims.proofs.Begins.{unit-at, unit-stored}
+use Rattle.claims.specs.History.{Last, never, last, isA, field, about, lastThat, fixedIn, closedIn, begunIn, entryBy, entryIn, componentIn}
+use Rattle.claims.specs.Figures.{unitIn}
+use Rattle.claims.proofs.SameFigures.{unit-is, about-as-before, entry-as-before, component-another}
+use Rattle.claims.proofs.Kept.{gathering-is, Passed, accepted-shows, Within, Plants, Kept}
+use Rattle.claims.proofs.Untouched.{timing-other, consumers-other, contracts-other, firm-before, money-before}
+use Rattle.claims.proofs.GatheringCalls.{unit-at, unit-stored}
 
 -- what a unit's number shows where it is enrolled
 enrolled-never : (l : Last) (component ending tc count : ℕ) (readings : List ℕ) → testRest (entryBy l) component ending tc count readings ≡ 0 → (l ≡ never → ⊥) × (testNumber ending tc count readings ≡ 0)
@@ -54,7 +50,7 @@ available-never (last e) component hd hmp hif hed z =
     ((λ q. let n : _≡_ {A = ℕ} 0 1 = cc in absurd (omega arith)), peel-not (hasAvailability (field 2 e) component) 6 (availabilityNumber (minutes hd hmp hif hed)) z .1)
 
 -- one component of three replaced
-replaced : (u : Unit) (component j : ℕ) (x : Component) → component ≤ 2 → j ≤ 2 → componentOf (withComponent u component x) j ≡ pick (eqb component j) x (componentOf u j)
+replaced : (u : Unit) (component j : ℕ) (x : Component) → component ≤ greatestComponent → j ≤ greatestComponent → componentOf (withComponent u component x) j ≡ pick (eqb component j) x (componentOf u j)
 replaced u zero zero x p q = refl
 replaced u zero (suc zero) x p q = refl
 replaced u zero (suc (suc zero)) x p q = refl
@@ -70,15 +66,15 @@ replaced u (suc (suc zero)) (suc (suc (suc j))) x p q = absurd (omega arith)
 replaced u (suc (suc (suc c))) j x p q = absurd (omega arith)
 
 -- the component of a unit by its number
-component-in : (h : List Event) (w j : ℕ) → j ≤ 2 → componentOf (unitIn h w) j ≡ componentIn h w j
+component-in : (h : List Event) (w j : ℕ) → j ≤ greatestComponent → componentOf (unitIn h w) j ≡ componentIn h w j
 component-in h w zero p = refl
 component-in h w (suc zero) p = refl
 component-in h w (suc (suc zero)) p = refl
 component-in h w (suc (suc (suc j))) p = absurd (omega arith)
 
 -- a call on one component of one unit: the units and what is known of their powers
-module _ (h : List Event) (b : Book) (k : Kept h b) (e : Event) (u component : ℕ) (x : Component) (lower : 1 ≤ u) (upper : u ≤ units) (few : component ≤ 2) (not-unit : isA mark.Unit e ≡ false) (this : (j : ℕ) → componentIn (e ∷ h) u j ≡ pick (eqb component j) x (componentIn h u j)) (others : (w j : ℕ) → (w ≡ u → ⊥) → componentIn (e ∷ h) w j ≡ componentIn h w j) (cap-kept : Within (capOf (entryIn h u)) x) (small-kept : maximumPower x .0 ≤ greatestPower) (there : lastThat (about mark.Unit u) h ≡ never → ⊥) where
-  stored-at : (j : ℕ) → j ≤ 2 → componentIn (e ∷ h) u j ≡ componentOf (withComponent (unitIn h u) component x) j
+module _ (h : List Event) (b : Book) (k : Kept h b) (e : Event) (u component : ℕ) (x : Component) (numbered : Numbered units u) (few : component ≤ greatestComponent) (not-unit : isA name.Unit e ≡ false) (this : (j : ℕ) → componentIn (e ∷ h) u j ≡ pick (eqb component j) x (componentIn h u j)) (others : (w j : ℕ) → (w ≡ u → ⊥) → componentIn (e ∷ h) w j ≡ componentIn h w j) (cap-kept : Within (capOf (entryIn h u)) x) (small-kept : maximumPower x .0 ≤ greatestPower) (there : lastThat (about name.Unit u) h ≡ never → ⊥) where
+  stored-at : (j : ℕ) → j ≤ greatestComponent → componentIn (e ∷ h) u j ≡ componentOf (withComponent (unitIn h u) component x) j
   stored-at j q =
       this j
       ∙ ap (λ y. pick (eqb component j) x y) (sym (component-in h u j q))
@@ -90,33 +86,33 @@ module _ (h : List Event) (b : Book) (k : Kept h b) (e : Event) (u component : �
 
   within-kept : (w j : ℕ) (t : Bool) → eqb w u ≡ t → Within (capOf (entryIn (e ∷ h) w)) (componentIn (e ∷ h) w j)
   within-kept w j true q =
-      rw (eqb-true w u q, entry-kept e h not-unit u, this j)
-      (chosen (λ y. Within (capOf (entryIn h u)) y) (eqb component j) (componentIn h u j) cap-kept (k .plants .capped u j))
+      rw (eqb-true w u q, entry-as-before e h not-unit u, this j)
+      (chosen (λ y. Within (capOf (entryIn h u)) y) (eqb component j) (componentIn h u j) cap-kept (k .plants .power-capped u j))
   within-kept w j false q =
-      rw (entry-kept e h not-unit w, others w j (eqb-false w u q)) (k .plants .capped w j)
+      rw (entry-as-before e h not-unit w, others w j (eqb-false w u q)) (k .plants .power-capped w j)
 
   smalls-kept : (w j : ℕ) (t : Bool) → eqb w u ≡ t → maximumPower (componentIn (e ∷ h) w j) .0 ≤ greatestPower
   smalls-kept w j true q =
       rw (eqb-true w u q, this j)
-      (chosen (λ y. maximumPower y .0 ≤ greatestPower) (eqb component j) (componentIn h u j) small-kept (k .plants .small u j))
-  smalls-kept w j false q = rw (others w j (eqb-false w u q)) (k .plants .small w j)
+      (chosen (λ y. maximumPower y .0 ≤ greatestPower) (eqb component j) (componentIn h u j) small-kept (k .plants .power-small u j))
+  smalls-kept w j false q = rw (others w j (eqb-false w u q)) (k .plants .power-small w j)
 
-  untested-kept : (w j : ℕ) (t : Bool) → eqb w u ≡ t → lastThat (about mark.Unit w) (e ∷ h) ≡ never → componentIn (e ∷ h) w j ≡ fresh
+  untested-kept : (w j : ℕ) (t : Bool) → eqb w u ≡ t → lastThat (about name.Unit w) (e ∷ h) ≡ never → componentIn (e ∷ h) w j ≡ fresh
   untested-kept w j true q r =
-      absurd (there (ap (λ n. lastThat (about mark.Unit n) h) (sym (eqb-true w u q)) ∙ sym (about-kept e h mark.Unit w not-unit) ∙ r))
+      absurd (there (ap (λ n. lastThat (about name.Unit n) h) (sym (eqb-true w u q)) ∙ sym (about-as-before e h name.Unit w not-unit) ∙ r))
   untested-kept w j false q r =
-      others w j (eqb-false w u q) ∙ k .plants .untested w j (sym (about-kept e h mark.Unit w not-unit) ∙ r)
+      others w j (eqb-false w u q) ∙ k .plants .untested w j (sym (about-as-before e h name.Unit w not-unit) ∙ r)
 
   pub component-stored : Plants (e ∷ h) (set (b .units) (u - 1) (withComponent (unitAt (b .units) u) component x))
   component-stored =
       record {
         units-kept =
-            ap (λ (v : Unit). set (b .units) (u - 1) (withComponent v component x)) (unit-at h b k u lower upper)
-            ∙ unit-stored h b k e u (withComponent (unitIn h u) component x) lower upper
-            (unit-is (entry-kept e h not-unit u) (stored-at 0 (omega arith)) (stored-at 1 (omega arith)) (stored-at 2 (omega arith)))
-            (λ w o. unit-is (entry-kept e h not-unit w) (others w 0 o) (others w 1 o) (others w 2 o));
-        capped = λ w j. within-kept w j (eqb w u) refl;
-        small = λ w j. smalls-kept w j (eqb w u) refl;
+            ap (λ (v : Unit). set (b .units) (u - 1) (withComponent v component x)) (unit-at h b k u numbered)
+            ∙ unit-stored h b k e u (withComponent (unitIn h u) component x) numbered
+            (unit-is (entry-as-before e h not-unit u) (stored-at 0 (omega arith)) (stored-at 1 (omega arith)) (stored-at 2 (omega arith)))
+            (λ w o. unit-is (entry-as-before e h not-unit w) (others w 0 o) (others w 1 o) (others w 2 o));
+        power-capped = λ w j. within-kept w j (eqb w u) refl;
+        power-small = λ w j. smalls-kept w j (eqb w u) refl;
         untested = λ w j. untested-kept w j (eqb w u) refl;
       }
 
@@ -128,24 +124,19 @@ module _ (h : List Event) (b : Book) (k : Kept h b) where
     shown : Passed (call.Test unit component ending tc count) readings Gathering (b .stage) (testRest (unitAt (b .units) unit .enrolment) component ending tc count readings)
     unfolding testedNumber
     shown =
-        passed (call.Test unit component ending tc count) readings Gathering (b .stage) (testRest (unitAt (b .units) unit .enrolment) component ending tc count readings) z
+        accepted-shows (call.Test unit component ending tc count) readings Gathering (b .stage) (testRest (unitAt (b .units) unit .enrolment) component ending tc count readings) z
 
-    unit-range : (1 ≤ unit) × (unit ≤ units)
-    unfolding partsOf formOf
-    unit-range = field-in-range (call.Test unit component ending tc count) readings (shown .range) 0 (omega arith) (omega arith) (omega arith)
-
-    component-range : (0 ≤ component) × (component ≤ 2)
-    unfolding partsOf formOf
-    component-range = field-in-range (call.Test unit component ending tc count) readings (shown .range) 1 (omega arith) (omega arith) (omega arith)
+    ranges : TestRanged unit component
+    ranges = test-ranged unit component ending tc count readings (shown .range)
 
     was-gathering : (closedIn h ≡ false) × (fixedIn h ≡ false) × (begunIn h ≡ true)
     was-gathering =
         gathering-is (closedIn h) (fixedIn h) (begunIn h) (sym (k .timing .stage-kept) ∙ shown .stage)
 
-    there : (lastThat (about mark.Unit unit) h ≡ never → ⊥) × (testNumber ending tc count readings ≡ 0)
+    there : (lastThat (about name.Unit unit) h ≡ never → ⊥) × (testNumber ending tc count readings ≡ 0)
     there =
-        enrolled-never (lastThat (about mark.Unit unit) h) component ending tc count readings
-        (ap (λ (v : Unit). testRest (v .enrolment) component ending tc count readings) (sym (unit-at h b k unit (unit-range .0) (unit-range .1))) ∙ shown .rest)
+        enrolled-never (lastThat (about name.Unit unit) h) component ending tc count readings
+        (ap (λ (v : Unit). testRest (v .enrolment) component ending tc count readings) (sym (unit-at h b k unit (ranges .unit))) ∙ shown .rest)
 
     abbrev before : Component
     before = componentOf (unitAt (b .units) unit) component
@@ -155,11 +146,11 @@ module _ (h : List Event) (b : Book) (k : Kept h b) where
 
     was : before ≡ componentIn h unit component
     was =
-        ap (λ v. componentOf v component) (unit-at h b k unit (unit-range .0) (unit-range .1))
-        ∙ component-in h unit component (component-range .1)
+        ap (λ v. componentOf v component) (unit-at h b k unit (ranges .unit))
+        ∙ component-in h unit component (ranges .component)
 
     cap-was : capOf (unitAt (b .units) unit .enrolment) ≡ capOf (entryIn h unit)
-    cap-was = ap (λ (v : Unit). capOf (v .enrolment)) (unit-at h b k unit (unit-range .0) (unit-range .1))
+    cap-was = ap (λ (v : Unit). capOf (v .enrolment)) (unit-at h b k unit (ranges .unit))
 
     -- the test's component is the one of the rows of "Maximum power"
     by-rows : (x : Component) (cap : Cap) → testOf x cap ending tc count readings .component ≡ afterTest cap ending x (measuredOf (x .«void_trip») ending tc count (energyOf count readings))
@@ -167,7 +158,7 @@ module _ (h : List Event) (b : Book) (k : Kept h b) where
     by-rows x cap = simp (there .1)
 
     this : (j : ℕ) → componentIn (test ∷ h) unit j ≡ pick (eqb component j) after (componentIn h unit j)
-    unfolding componentIn partsOf formOf
+    unfolding componentIn partsOf
     this j =
         simp (eq-eqb unit unit refl) (go (eqb component j) refl)
       where
@@ -180,7 +171,7 @@ module _ (h : List Event) (b : Book) (k : Kept h b) where
         go false q = refl
 
     others : (w j : ℕ) → (w ≡ unit → ⊥) → componentIn (test ∷ h) w j ≡ componentIn h w j
-    unfolding partsOf formOf
+    unfolding partsOf
     others w j o = component-another test h w j (ne-eqb unit w (λ q. o (sym q)))
 
     within : (cap : Cap) (x : Component) → Within cap x → Within cap (testOf x cap ending tc count readings .component)
@@ -193,20 +184,19 @@ module _ (h : List Event) (b : Book) (k : Kept h b) where
         ∙ ap (λ c. testOf (componentIn h unit component) c ending tc count readings .component) cap-was
 
     pub test-kept : Kept (test ∷ h) (tested b unit component ending tc count readings)
-    unfolding tested testedUnit partsOf formOf
+    unfolding tested testedUnit partsOf
     test-kept =
         record {
-          timing = timing-other test h (b .stage) (b .hours) (b .dmp) refl refl refl (k .timing);
+          timing = timing-other test h refl (k .timing);
           plants =
-              component-stored h b k test unit component after (unit-range .0) (unit-range .1) (component-range .1) refl this others
-              (subst⁻¹ (λ x. Within (capOf (entryIn h unit)) x) after-is (within (capOf (entryIn h unit)) (componentIn h unit component) (k .plants .capped unit component)))
-              (subst⁻¹ (λ x. maximumPower x .0 ≤ greatestPower) after-is (test-within-greatest (componentIn h unit component) (capOf (entryIn h unit)) ending tc count readings (k .plants .small unit component)))
+              component-stored h b k test unit component after (ranges .unit) (ranges .component) refl this others
+              (subst⁻¹ (λ x. Within (capOf (entryIn h unit)) x) after-is (within (capOf (entryIn h unit)) (componentIn h unit component) (k .plants .power-capped unit component)))
+              (subst⁻¹ (λ x. maximumPower x .0 ≤ greatestPower) after-is (test-within-greatest (componentIn h unit component) (capOf (entryIn h unit)) ending tc count readings (k .plants .power-small unit component)))
               (there .0);
-          people = people-other test h (b .consumers) refl refl refl (k .people);
-          contracts = contracts-other test h (b .balances) (b .limits) refl refl refl (k .contracts);
-          firm = firm-before test h (b .offers) (b .efficient) (b .limits) refl (was-gathering .1) (k .firm);
-          money =
-              money-before test h (b .adjusted) (b .charges) (b .credits) (b .charged) (b .credited) (b .undistributed) refl (was-gathering .0);
+          consumers = consumers-other test h refl (k .consumers);
+          contracts = contracts-other test h refl (k .contracts);
+          firm = firm-before test h refl (was-gathering .1) (k .firm);
+          money = money-before test h refl (was-gathering .0);
         }
 
   module _ (unit component hd hmp hif hed : ℕ) (readings : List ℕ) (z : availableNumber b unit component hd hmp hif hed ≡ 0) where
@@ -216,39 +206,34 @@ module _ (h : List Event) (b : Book) (k : Kept h b) where
     available-shown : Passed (call.Availability unit component hd hmp hif hed) [] Gathering (b .stage) (availabilityRest (unitAt (b .units) unit .enrolment) component hd hmp hif hed)
     unfolding availableNumber
     available-shown =
-        passed (call.Availability unit component hd hmp hif hed) [] Gathering (b .stage) (availabilityRest (unitAt (b .units) unit .enrolment) component hd hmp hif hed) z
+        accepted-shows (call.Availability unit component hd hmp hif hed) [] Gathering (b .stage) (availabilityRest (unitAt (b .units) unit .enrolment) component hd hmp hif hed) z
 
-    available-unit : (1 ≤ unit) × (unit ≤ units)
-    unfolding partsOf formOf
-    available-unit = field-in-range (call.Availability unit component hd hmp hif hed) [] (available-shown .range) 0 (omega arith) (omega arith) (omega arith)
-
-    available-component : (0 ≤ component) × (component ≤ 2)
-    unfolding partsOf formOf
-    available-component = field-in-range (call.Availability unit component hd hmp hif hed) [] (available-shown .range) 1 (omega arith) (omega arith) (omega arith)
+    available-ranges : AvailabilityRanged unit component hd hmp hif hed
+    available-ranges = availability-ranged unit component hd hmp hif hed [] (available-shown .range)
 
     still-gathering : (closedIn h ≡ false) × (fixedIn h ≡ false) × (begunIn h ≡ true)
     still-gathering =
         gathering-is (closedIn h) (fixedIn h) (begunIn h) (sym (k .timing .stage-kept) ∙ available-shown .stage)
 
-    available-there : (lastThat (about mark.Unit unit) h ≡ never → ⊥) × (availabilityNumber (minutes hd hmp hif hed) ≡ 0)
+    available-there : (lastThat (about name.Unit unit) h ≡ never → ⊥) × (availabilityNumber (minutes hd hmp hif hed) ≡ 0)
     available-there =
-        available-never (lastThat (about mark.Unit unit) h) component hd hmp hif hed
-        (ap (λ (v : Unit). availabilityRest (v .enrolment) component hd hmp hif hed) (sym (unit-at h b k unit (available-unit .0) (available-unit .1))) ∙ available-shown .rest)
+        available-never (lastThat (about name.Unit unit) h) component hd hmp hif hed
+        (ap (λ (v : Unit). availabilityRest (v .enrolment) component hd hmp hif hed) (sym (unit-at h b k unit (available-ranges .unit))) ∙ available-shown .rest)
 
     abbrev held : Component
     held = availabilityOf (componentOf (unitAt (b .units) unit) component) (minutes hd hmp hif hed) .component
 
     held-is : held ≡ availabilityOf (componentIn h unit component) (minutes hd hmp hif hed) .component
     held-is =
-        ap (λ v. availabilityOf (componentOf v component) (minutes hd hmp hif hed) .component) (unit-at h b k unit (available-unit .0) (available-unit .1))
-        ∙ ap (λ x. availabilityOf x (minutes hd hmp hif hed) .component) (component-in h unit component (available-component .1))
+        ap (λ v. availabilityOf (componentOf v component) (minutes hd hmp hif hed) .component) (unit-at h b k unit (available-ranges .unit))
+        ∙ ap (λ x. availabilityOf x (minutes hd hmp hif hed) .component) (component-in h unit component (available-ranges .component))
 
     by-minutes : (x : Component) → availabilityOf x (minutes hd hmp hif hed) .component ≡ record { result = x .result; «void_trip» = x .«void_trip»; availability = Known (minutes hd hmp hif hed) }
     unfolding availabilityOf
     by-minutes x = rw (available-there .1) refl
 
     available-this : (j : ℕ) → componentIn (availability ∷ h) unit j ≡ pick (eqb component j) held (componentIn h unit j)
-    unfolding componentIn partsOf formOf
+    unfolding componentIn partsOf
     available-this j = simp (eq-eqb unit unit refl) (go (eqb component j) refl)
       where
         go : (t : Bool) → eqb component j ≡ t → pick t (record { result = componentIn h unit j .result; «void_trip» = componentIn h unit j .«void_trip»; availability = Known (minutes hd hmp hif hed) }) (componentIn h unit j) ≡ pick t held (componentIn h unit j)
@@ -259,7 +244,7 @@ module _ (h : List Event) (b : Book) (k : Kept h b) where
         go false q = refl
 
     available-others : (w j : ℕ) → (w ≡ unit → ⊥) → componentIn (availability ∷ h) w j ≡ componentIn h w j
-    unfolding partsOf formOf
+    unfolding partsOf
     available-others w j o = component-another availability h w j (ne-eqb unit w (λ q. o (sym q)))
 
     same-power : maximumPower held ≡ maximumPower (componentIn h unit component)
@@ -270,18 +255,17 @@ module _ (h : List Event) (b : Book) (k : Kept h b) where
     same-within (At m) x y q w = subst⁻¹ (λ (p : Kw). p .0 ≤ m .0) q w
 
     pub availability-kept : Kept (availability ∷ h) (available b unit component hd hmp hif hed)
-    unfolding available availableUnit partsOf formOf
+    unfolding available availableUnit partsOf
     availability-kept =
         record {
-          timing = timing-other availability h (b .stage) (b .hours) (b .dmp) refl refl refl (k .timing);
+          timing = timing-other availability h refl (k .timing);
           plants =
-              component-stored h b k availability unit component held (available-unit .0) (available-unit .1) (available-component .1) refl available-this available-others
-              (same-within (capOf (entryIn h unit)) held (componentIn h unit component) same-power (k .plants .capped unit component))
-              (subst⁻¹ (λ (p : Kw). p .0 ≤ greatestPower) same-power (k .plants .small unit component))
+              component-stored h b k availability unit component held (available-ranges .unit) (available-ranges .component) refl available-this available-others
+              (same-within (capOf (entryIn h unit)) held (componentIn h unit component) same-power (k .plants .power-capped unit component))
+              (subst⁻¹ (λ (p : Kw). p .0 ≤ greatestPower) same-power (k .plants .power-small unit component))
               (available-there .0);
-          people = people-other availability h (b .consumers) refl refl refl (k .people);
-          contracts = contracts-other availability h (b .balances) (b .limits) refl refl refl (k .contracts);
-          firm = firm-before availability h (b .offers) (b .efficient) (b .limits) refl (still-gathering .1) (k .firm);
-          money =
-              money-before availability h (b .adjusted) (b .charges) (b .credits) (b .charged) (b .credited) (b .undistributed) refl (still-gathering .0);
+          consumers = consumers-other availability h refl (k .consumers);
+          contracts = contracts-other availability h refl (k .contracts);
+          firm = firm-before availability h refl (still-gathering .1) (k .firm);
+          money = money-before availability h refl (still-gathering .0);
         }

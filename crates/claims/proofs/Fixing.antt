@@ -1,37 +1,31 @@
 -- An accepted fix keeps what is kept.
 use mathlib.Core.Path.{_≡_, refl, sym, ap, _∙_}
-use mathlib.Core.Bool.{Bool, true, false, false≢true}
+use mathlib.Core.Bool.{true, false, false≢true}
 use mathlib.Core.List.{List, [], _∷_}
 use Prim.Native.Nat.{ℕ, suc, _+_, _-_, _*_, _≤_, _<_, zero-le}
 use native.Mathlib.Nat.{mul-zero}
 use native.Mathlib.Omega.{arith}
-use lib.Dec.{eqb}
 use lib.ListN.{length, getD, take, drop}
-use lib.Seq.{getD-drop, getD-take}
-use Rattle.basis.specs.Choice.{pick}
+use lib.Seq.{getD-drop}
 use Rattle.basis.specs.Sums.{sum}
-use Rattle.basis.specs.Tables.{tab}
 use Rattle.basis.proofs.Sums.{sum-at-most}
 use Rattle.basis.proofs.Tables.{getD-tab, tab-same}
-use Rattle.share.specs.Division.{divisionNumber, shares}
-use Rattle.plant.specs.Ranges.{greatestPower}
+use Rattle.share.specs.Division.{shares}
+use Rattle.quantities.specs.Limits.{greatestPower, consumers}
+use Rattle.record.proofs.Ranged.{Numbered, fix-ranged}
 use Rattle.record.specs.Calls.{partsOf}
-use Rattle.record.specs.Forms.{formOf, producers, consumers}
 use Rattle.record.specs.declared.calls.Call.the-variants as call
-use Rattle.record.specs.declared.forms.Mark.the-variants as mark
-use Rattle.book.specs.declared.state.Stage.the-variants.{Gathering, Firm}
-use Rattle.book.specs.declared.state.Declaration.{Declaration}
-use Rattle.book.specs.declared.state.Consumer.{Consumer}
-use Rattle.book.specs.declared.state.Book.{Book}
-use Rattle.book.specs.State.{freshConsumer, rowOf}
-use Rattle.book.specs.Fix.{offersOf, efficientIn, limitsOf, weightsOf, demandBy, withDemand, withDemands, fixNumber, fixed}
+use Rattle.record.specs.Names as name
+use Rattle.state.specs.declared.kept.Stage.the-variants.{Gathering}
+use Rattle.state.specs.declared.kept.Book.{Book}
+use Rattle.state.specs.State.{freshConsumer, rowOf}
+use Rattle.fix.specs.Fix.{offersOf, efficientIn, limitsOf, weightsOf, demandBy, withDemand, withDemands, fixRest, fixNumber, fixed}
 use Rattle.book.specs.Lists.{Event}
-use Rattle.claims.specs.History.{Last, never, last, isA, fieldIn, lastThat, begunIn, fixedIn, closedIn, hoursIn, dmpIn, declaredIn}
+use Rattle.claims.specs.History.{Last, never, last, isA, lastThat, begunIn, fixedIn, closedIn, hoursIn, dmpIn, declaredIn}
 use Rattle.claims.specs.Figures.{unitsIn, offersIn, efficientOffersIn, declarationsIn, demandIn, declarationBy, readingBy, consumerIn, consumersIn}
-use Rattle.claims.proofs.Ranges.{field-in-range}
-use Rattle.claims.proofs.Other.{consumer-is, last-this, about-kept, hours-kept, begun-kept, closed-kept, units-kept, declarations-kept, sum-kept}
-use Rattle.claims.proofs.Kept.{gathering-is, Passed, passed, People, Contracts, FirmYear, Kept}
-use Rattle.claims.proofs.Others.{plants-other, money-before}
+use Rattle.claims.proofs.SameFigures.{consumer-is, last-this, about-as-before, hours-as-before, closed-as-before, declarations-as-before, sum-as-before}
+use Rattle.claims.proofs.Kept.{gathering-is, Passed, accepted-shows, Kept}
+use Rattle.claims.proofs.Untouched.{same-units, plants-other, money-before}
 use Rattle.claims.proofs.Demands.{weights-in}
 
 -- a row of balances that are all 0
@@ -49,20 +43,19 @@ module _ (h : List Event) (b : Book) (k : Kept h b) (dmp : ℕ) (readings : List
   abbrev fix : Event
   fix = record { call = call.Fix dmp; readings = readings }
 
-  shown : Passed (call.Fix dmp) [] Gathering (b .stage) (divisionNumber dmp (weightsOf (b .consumers)) consumers)
+  shown : Passed (call.Fix dmp) [] Gathering (b .stage) (fixRest dmp (b .consumers))
   unfolding fixNumber
-  shown = passed (call.Fix dmp) [] Gathering (b .stage) (divisionNumber dmp (weightsOf (b .consumers)) consumers) z
+  shown = accepted-shows (call.Fix dmp) [] Gathering (b .stage) (fixRest dmp (b .consumers)) z
 
-  dmp-range : (1 ≤ dmp) × (dmp ≤ greatestPower)
-  unfolding partsOf formOf
-  dmp-range = field-in-range (call.Fix dmp) [] (shown .range) 0 (omega arith) (omega arith) (omega arith)
+  dmp-range : Numbered greatestPower dmp
+  dmp-range = fix-ranged dmp [] (shown .range)
 
   was-gathering : (closedIn h ≡ false) × (fixedIn h ≡ false) × (begunIn h ≡ true)
   was-gathering = gathering-is (closedIn h) (fixedIn h) (begunIn h) (sym (k .timing .stage-kept) ∙ shown .stage)
 
-  this : lastThat (isA mark.Fix) (fix ∷ h) ≡ last fix
-  unfolding partsOf formOf
-  this = last-this fix h (isA mark.Fix) refl
+  this : lastThat (isA name.Fix) (fix ∷ h) ≡ last fix
+  unfolding partsOf
+  this = last-this fix h (isA name.Fix) refl
 
   now-fixed : fixedIn (fix ∷ h) ≡ true
   now-fixed = rw this refl
@@ -71,32 +64,31 @@ module _ (h : List Event) (b : Book) (k : Kept h b) (dmp : ℕ) (readings : List
   unfolding partsOf
   now-dmp = rw this refl
 
-  same-units : unitsIn (fix ∷ h) ≡ unitsIn h
-  unfolding partsOf formOf
-  same-units = units-kept fix h refl refl refl
+  units-were : b .units ≡ unitsIn (fix ∷ h)
+  units-were = k .plants .units-kept ∙ sym (same-units fix h refl)
 
   same-declarations : declarationsIn (fix ∷ h) ≡ declarationsIn h
-  unfolding partsOf formOf
-  same-declarations = declarations-kept fix h refl
+  unfolding partsOf
+  same-declarations = declarations-as-before fix h refl
 
   weights : weightsOf (b .consumers) ≡ declarationsIn (fix ∷ h)
-  weights = ap weightsOf (k .people .consumers-kept) ∙ weights-in h ∙ sym same-declarations
+  weights = ap weightsOf (k .consumers .consumers-kept) ∙ weights-in h ∙ sym same-declarations
 
   offers-now : offersOf (b .hours) (b .units) ≡ offersIn (fix ∷ h)
-  unfolding offersIn partsOf formOf
+  unfolding offersIn partsOf
   offers-now =
-      ap (λ t. offersOf t (b .units)) (k .timing .hours-kept ∙ sym (hours-kept fix h refl))
-      ∙ ap (offersOf (hoursIn (fix ∷ h))) (k .plants .units-kept ∙ sym same-units)
+      ap (λ t. offersOf t (b .units)) (k .timing .hours-kept ∙ sym (hours-as-before fix h refl))
+      ∙ ap (offersOf (hoursIn (fix ∷ h))) units-were
 
   efficient-now : efficientIn (b .units) (offersOf (b .hours) (b .units)) ≡ efficientOffersIn (fix ∷ h)
   unfolding efficientOffersIn
   efficient-now =
-      ap (λ us. efficientIn us (offersOf (b .hours) (b .units))) (k .plants .units-kept ∙ sym same-units)
+      ap (λ us. efficientIn us (offersOf (b .hours) (b .units))) units-were
       ∙ ap (efficientIn (unitsIn (fix ∷ h))) offers-now
 
   limits-now : limitsOf (b .units) (efficientIn (b .units) (offersOf (b .hours) (b .units))) ≡ limitsOf (unitsIn (fix ∷ h)) (efficientOffersIn (fix ∷ h))
   limits-now =
-      ap (λ us. limitsOf us (efficientIn (b .units) (offersOf (b .hours) (b .units)))) (k .plants .units-kept ∙ sym same-units)
+      ap (λ us. limitsOf us (efficientIn (b .units) (offersOf (b .hours) (b .units)))) units-were
       ∙ ap (limitsOf (unitsIn (fix ∷ h))) efficient-now
 
   -- the firm demand of a consumer is its share
@@ -113,52 +105,51 @@ module _ (h : List Event) (b : Book) (k : Kept h b) (dmp : ℕ) (readings : List
   given df other (last e) = refl
 
   consumer-now : (i : ℕ) → i < consumers → withDemand (getD (shares dmp (weightsOf (b .consumers))) i 0) (getD (b .consumers) i freshConsumer) ≡ consumerIn (fix ∷ h) (suc i)
-  unfolding consumersIn partsOf formOf
+  unfolding consumersIn partsOf
   consumer-now i p =
-      ap (λ xs. withDemand (getD (shares dmp (weightsOf (b .consumers))) i 0) (getD xs i freshConsumer)) (k .people .consumers-kept)
+      ap (λ xs. withDemand (getD (shares dmp (weightsOf (b .consumers))) i 0) (getD xs i freshConsumer)) (k .consumers .consumers-kept)
       ∙ ap (withDemand (getD (shares dmp (weightsOf (b .consumers))) i 0)) (getD-tab (λ j. consumerIn h (suc j)) consumers i freshConsumer p)
       ∙ consumer-is
       (given (getD (shares dmp (weightsOf (b .consumers))) i 0) (demandIn h (suc i)) (declaredIn h (suc i))
       ∙ ap (λ df. declarationBy df (declaredIn h (suc i))) (demand-now i)
-      ∙ ap (declarationBy (demandIn (fix ∷ h) (suc i))) (sym (about-kept fix h mark.Declare (suc i) refl)))
-      (ap readingBy (sym (about-kept fix h mark.Meter (suc i) refl)))
+      ∙ ap (declarationBy (demandIn (fix ∷ h) (suc i))) (sym (about-as-before fix h name.Declare (suc i) refl)))
+      (ap readingBy (sym (about-as-before fix h name.Meter (suc i) refl)))
 
   pub fix-kept : Kept (fix ∷ h) (fixed b dmp)
-  unfolding fixed withDemands consumersIn partsOf formOf
+  unfolding fixed withDemands consumersIn partsOf
   fix-kept =
       record {
         timing =
             record {
-              stage-kept = sym (rw (closed-kept fix h refl, was-gathering .0, now-fixed) refl);
-              hours-kept = k .timing .hours-kept ∙ sym (hours-kept fix h refl);
+              stage-kept = sym (rw (closed-as-before fix h refl, was-gathering .0, now-fixed) refl);
+              hours-kept = k .timing .hours-kept ∙ sym (hours-as-before fix h refl);
               dmp-kept = sym now-dmp;
             };
-        plants = plants-other fix h (b .units) refl refl refl (k .plants);
-        people =
+        plants = plants-other fix h refl (k .plants);
+        consumers =
             record {
               consumers-kept =
                   tab-same (λ i. withDemand (getD (shares dmp (weightsOf (b .consumers))) i 0) (getD (b .consumers) i freshConsumer)) (λ i. consumerIn (fix ∷ h) (suc i)) consumers consumer-now;
-              declared-small = λ w. rw (about-kept fix h mark.Declare w refl) (k .people .declared-small w);
+              declared-small = λ w. rw (about-as-before fix h name.Declare w refl) (k .consumers .declared-small w);
             };
         contracts =
             record {
               length-kept = k .contracts .length-kept;
               balance-kept =
-                  λ p c i j m n.
-                  ap (λ r. getD (b .balances) (Rattle.book.specs.State.cellOf p c) 0 + r) (sum-kept fix h mark.Release p c refl)
-                  ∙ k .contracts .balance-kept p c i j m n
-                  ∙ sym (sum-kept fix h mark.Commit p c refl);
+                  λ p c np nc.
+                  ap (λ r. getD (b .balances) (Rattle.state.specs.State.cellOf p c) 0 + r) (sum-as-before fix h name.Release p c refl)
+                  ∙ k .contracts .balance-kept p c np nc
+                  ∙ sym (sum-as-before fix h name.Commit p c refl);
               nothing-yet = λ q. absurd (false≢true (sym q ∙ now-fixed));
-              total-kept = λ q p i j. rw (empty-row (b .balances) p (k .contracts .nothing-yet (was-gathering .1))) zero-le;
+              total-kept = λ q p np. rw (empty-row (b .balances) p (k .contracts .nothing-yet (was-gathering .1))) zero-le;
             };
         firm =
             record {
               offers-kept = λ q. offers-now;
               efficient-kept = λ q. efficient-now;
               limits-kept = λ q. limits-now;
-              shared = λ q. rw (now-dmp, ← weights) (shown .rest);
-              dmp-small = rw now-dmp (dmp-range .1);
+              dmp-shared = λ q. rw (now-dmp, ← weights) (shown .rest);
+              dmp-small = rw now-dmp (dmp-range .most);
             };
-        money =
-            money-before fix h (b .adjusted) (b .charges) (b .credits) (b .charged) (b .credited) (b .undistributed) refl (was-gathering .0);
+        money = money-before fix h refl (was-gathering .0);
       }

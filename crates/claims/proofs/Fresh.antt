@@ -1,15 +1,13 @@
 -- A fresh book and no call.
-use mathlib.Core.Path.{_≡_, refl, sym, ap, _∙_}
-use mathlib.Core.Bool.{Bool, true, false, false≢true}
+use mathlib.Core.Path.{_≡_, refl, ap}
+use mathlib.Core.Bool.{false≢true}
 use mathlib.Core.List.{List, [], _∷_}
-use Prim.Native.Nat.{ℕ, zero, suc, _+_, _≤_, _<_, zero-le}
+use Prim.Native.Nat.{ℕ, zero, suc, zero-le}
 use native.Mathlib.Nat.{le-refl}
-use native.Mathlib.Omega.{arith}
-use lib.ListN.{length, getD, replicate, length-replicate, getD-replicate}
-use Rattle.basis.specs.Tables.{tab, tabFrom}
-use Rattle.plant.specs.Efficient.{units}
-use Rattle.record.specs.Forms.{consumers}
-use Rattle.book.specs.State.{freshBook, freshUnit, freshConsumer, cells}
+use lib.ListN.{getD, replicate, length-replicate}
+use Rattle.basis.specs.Tables.{tabFrom}
+use Rattle.quantities.specs.Limits.{units, consumers}
+use Rattle.state.specs.State.{freshBook, freshUnit, freshConsumer, cells}
 use Rattle.claims.specs.History.{lastThat, sumOver, componentIn}
 use Rattle.claims.specs.Figures.{unitsIn, demandIn, consumersIn}
 use Rattle.claims.proofs.Kept.{Kept}
@@ -33,15 +31,15 @@ fresh-kept =
       plants =
           record {
             units-kept = replicate-tab freshUnit 0 units;
-            capped = λ u k. le-refl 0;
-            small = λ u k. zero-le;
+            power-capped = λ u k. le-refl 0;
+            power-small = λ u k. zero-le;
             untested = λ u k e. refl;
           };
-      people = record { consumers-kept = replicate-tab freshConsumer 0 consumers; declared-small = λ c. zero-le };
+      consumers = record { consumers-kept = replicate-tab freshConsumer 0 consumers; declared-small = λ c. zero-le };
       contracts =
           record {
             length-kept = length-replicate {A = ℕ} cells 0;
-            balance-kept = λ p c a b d e. rw (zero-everywhere cells (Rattle.book.specs.State.cellOf p c)) refl;
+            balance-kept = λ p c np nc. rw (zero-everywhere cells (Rattle.state.specs.State.cellOf p c)) refl;
             nothing-yet = λ e i. zero-everywhere cells i;
             total-kept = λ e. absurd (false≢true e);
           };
@@ -50,7 +48,7 @@ fresh-kept =
             offers-kept = λ e. absurd (false≢true e);
             efficient-kept = λ e. absurd (false≢true e);
             limits-kept = λ e. absurd (false≢true e);
-            shared = λ e. absurd (false≢true e);
+            dmp-shared = λ e. absurd (false≢true e);
             dmp-small = zero-le;
           };
       money =
@@ -61,6 +59,6 @@ fresh-kept =
             charged-kept = λ e. absurd (false≢true e);
             credited-kept = λ e. absurd (false≢true e);
             undistributed-kept = λ e. absurd (false≢true e);
-            divided = λ e. absurd (false≢true e);
+            charges-divided = λ e. absurd (false≢true e);
           };
     }

@@ -1,16 +1,16 @@
 -- The proof of demand 3: what every call keeps, and the claim from it.
 pub mod Tables
-pub mod Ranges
-pub mod Other
+pub mod SameFigures
+pub mod Parts
 pub mod Kept
 pub mod Fresh
-pub mod Others
-pub mod Begins
+pub mod Untouched
+pub mod GatheringCalls
 pub mod Components
 pub mod Demands
 pub mod Fixing
 pub mod Cells
-pub mod Trading
+pub mod FirmCalls
 pub mod Closing
 pub mod Lists
 pub mod Theorem

@@ -8,20 +8,20 @@ use lib.Dec.{eqb}
 use Rattle.basis.specs.Choice.{pick}
 use Rattle.record.specs.declared.calls.Call.{Call}
 use Rattle.record.specs.declared.calls.Call.the-variants as call
-use Rattle.book.specs.declared.state.Book.{Book}
-use Rattle.book.specs.State.{freshBook}
-use Rattle.book.specs.Gathering.{yearNumber, begun, yearOf, unitNumber, enrolled, unitOf, testedNumber, tested, testReply, availableNumber, available, availabilityReply, declareNumber, declared, declareOf}
-use Rattle.book.specs.Fix.{fixNumber, fixed, fixOf}
-use Rattle.book.specs.Firm.{commitNumber, committed, commitOf, releaseNumber, released, releaseOf, meterNumber, metered, meterOf}
-use Rattle.book.specs.Close.{closeNumber, closed, closeOf}
+use Rattle.state.specs.declared.kept.Book.{Book}
+use Rattle.state.specs.State.{freshBook}
+use Rattle.decision.specs.Gathering.{yearNumber, begun, yearOf, unitNumber, enrolled, unitOf, testedNumber, tested, testReply, availableNumber, available, availabilityReply, declareNumber, declared, declareOf}
+use Rattle.fix.specs.Fix.{fixNumber, fixed, fixOf}
+use Rattle.decision.specs.Firm.{commitNumber, committed, commitOf, releaseNumber, released, releaseOf, meterNumber, metered, meterOf}
+use Rattle.close.specs.Close.{closeNumber, closed, closeOf}
 use Rattle.book.specs.Step.{stepOf}
 use Rattle.book.specs.Lists.{Event, replyTo, afterAll, acceptedBy}
 use Rattle.claims.proofs.Kept.{Kept}
 use Rattle.claims.proofs.Fresh.{fresh-kept}
-use Rattle.claims.proofs.Begins.{year-kept, unit-kept, declare-kept}
+use Rattle.claims.proofs.GatheringCalls.{year-kept, unit-kept, declare-kept}
 use Rattle.claims.proofs.Components.{test-kept, availability-kept}
 use Rattle.claims.proofs.Fixing.{fix-kept}
-use Rattle.claims.proofs.Trading.{commit-kept, release-kept, meter-kept}
+use Rattle.claims.proofs.FirmCalls.{commit-kept, release-kept, meter-kept}
 use Rattle.claims.proofs.Closing.{close-kept}
 
 -- a refused call leaves the book and the history

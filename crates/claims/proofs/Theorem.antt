@@ -1,48 +1,51 @@
 -- Demand 3, from what every list keeps.
 use mathlib.Core.Path.{_≡_, refl, sym, ap, _∙_, subst}
-use mathlib.Core.Bool.{Bool, true, false, false≢true}
-use mathlib.Core.List.{List, [], _∷_, map}
+use mathlib.Core.Bool.{Bool, true, false}
+use mathlib.Core.List.{List, [], map}
 use mathlib.Core.Logic.{_⊎_, ⊎-elim}
-use Prim.Native.Nat.{ℕ, zero, suc, min, _+_, _-_, _*_, _≤_, _<_, zero-le}
-use native.Mathlib.Nat.{add-zero, zero-add, le-trans, min-le-right}
+use Prim.Native.Nat.{ℕ, suc, min, _+_, _-_, _*_, _≤_, _<_, zero-le}
+use native.Mathlib.Nat.{le-trans, min-le-right}
 use native.Mathlib.Omega.{arith}
-use borrow.Author.Tests.{eq-eqb, ne-eqb}
+use borrow.Author.Tests.{ne-eqb}
 use lib.Dec.{eqb}
-use lib.ListN.{length, getD, replicate}
+use lib.ListN.{getD}
 use Rattle.basis.specs.Choice.{pick}
-use Rattle.basis.specs.Sums.{sum, sumUp}
-use Rattle.basis.specs.Tables.{tab}
-use Rattle.basis.proofs.Sums.{sum-nil, sum-cons, sumUp-same}
+use Rattle.basis.specs.Sums.{sum}
+use Rattle.basis.proofs.Sums.{sumUp-same, sum-zeros}
 use Rattle.basis.proofs.Tables.{getD-tab}
 use Rattle.share.specs.Division.{divisionNumber, shares}
 use Rattle.share.proofs.Accepted.{accepted}
 use Rattle.share.proofs.Laws.{sum-shares, share-near}
-use Rattle.plant.specs.Power.{maximumPower}
-use Rattle.plant.specs.Efficient.{units, flagged, chosenYear, efficientOffer, efficientOffers}
-use Rattle.plant.specs.declared.component.Cap.{Cap}
-use Rattle.plant.specs.declared.component.Cap.the-variants.{Free, At}
+use Rattle.power.specs.Power.{maximumPower}
+use Rattle.quantities.specs.Limits.{units, producers, consumers}
+use Rattle.quantities.specs.Flags.{flagged, injectionGiven}
+use Rattle.plant.specs.Efficient.{chosenYear}
+use Rattle.power.specs.declared.component.Cap.the-variants.{At}
 use Rattle.plant.proofs.Offers.{offer-at-most-maximum}
 use Rattle.plant.proofs.Selection.{efficient-of-unit, efficient-at-most-offer}
-use Rattle.record.specs.Forms.{producers, consumers}
-use Rattle.record.specs.declared.forms.Mark.the-variants as mark
-use Rattle.book.specs.declared.state.Enrolment.{Enrolment}
-use Rattle.book.specs.declared.state.Enrolment.the-variants.{Vacant, Enrolled}
-use Rattle.book.specs.declared.state.Unit.{Unit}
-use Rattle.book.specs.declared.state.Consumer.{Consumer}
-use Rattle.book.specs.declared.state.Book.{Book}
-use Rattle.book.specs.State.{freshUnit, freshConsumer, freshBook, rowOf}
-use Rattle.book.specs.Gathering.{capOf}
-use Rattle.book.specs.Fix.{offerBy, offersOf, flagsOf, efficientIn, greatestLimit, producerBy, limitOf, limitsOf}
-use Rattle.book.specs.Close.{creditsOf, undistributedOf}
+use Rattle.record.specs.Names as name
+use Rattle.record.proofs.Ranged.{Numbered}
+use Rattle.state.specs.declared.kept.Enrolment.{Enrolment}
+use Rattle.state.specs.declared.kept.Enrolment.the-variants.{Vacant, Enrolled}
+use Rattle.state.specs.declared.kept.Unit.{Unit}
+use Rattle.state.specs.declared.kept.Consumer.{Consumer}
+use Rattle.state.specs.declared.kept.Book.{Book}
+use Rattle.state.specs.State.{freshUnit, freshBook, rowOf}
+use Rattle.decision.specs.Gathering.{capOf}
+use Rattle.fix.specs.Fix.{offerBy, offersOf, flagsOf, efficientIn, greatestLimit, producerBy, limitOf, limitsOf}
+use Rattle.close.specs.Close.{creditsOf, undistributedOf}
 use Rattle.book.specs.Lists.{Event, afterAll, acceptedBy}
-use Rattle.claims.specs.History.{Last, never, last, field, fieldIn, lastThat, about, fixedIn, closedIn, hoursIn, dmpIn, declaredIn, commitmentsIn, releasesIn, entryBy, entryIn, componentIn}
-use Rattle.claims.specs.Figures.{unitIn, unitsIn, powerIn, offersIn, efficientOffersIn, efficientOfferIn, producerOfferIn, declarationsIn, totalDeclaredIn, demandIn, consumerIn, consumersIn, declarationBy, positiveAdjustmentsIn, allChargesIn, allCreditsIn, undistributedIn}
-use Rattle.claims.specs.Demand.{demandBy, demandOf, demandsOf, balanceOf, NoSurplus, Demand3, Claim}
+use Rattle.claims.specs.History.{Last, never, last, field, fieldIn, lastThat, about, fixedIn, closedIn, hoursIn, dmpIn, declaredIn, entryBy, entryIn, componentIn}
+use Rattle.claims.specs.Figures.{unitIn, unitsIn, powerIn, offersIn, efficientOffersIn, efficientOfferIn, producerOfferIn, declarationsIn, totalDeclaredIn, demandIn, consumerIn, declarationBy, positiveAdjustmentsIn, allChargesIn, allCreditsIn, undistributedIn}
+use Rattle.claims.specs.Demand.{firmDemandBy, demandOf, NoSurplus, Demand3, Claim}
 use Rattle.claims.proofs.Kept.{Within, Kept}
-use Rattle.claims.proofs.Demands.{positive, declaration-at, demand-at, demand-in, demands-in}
+use Rattle.claims.proofs.Demands.{total-positive, declaration-at, demand-at, demand-in, demands-in}
 use Rattle.claims.proofs.Fixing.{empty-row}
-use Rattle.claims.proofs.Begins.{consumer-at}
+use Rattle.claims.proofs.GatheringCalls.{consumer-at}
 use Rattle.claims.proofs.Lists.{kept}
+
+numbered : {greatest n : ℕ} → 1 ≤ n → n ≤ greatest → Numbered greatest n
+numbered l m = record { least = l; most = m }
 
 module _ (h : List Event) where
   -- the offer of a unit, and that it is at most its maximum power
@@ -68,84 +71,79 @@ module _ (h : List Event) where
       (rw (e, efficient-of-unit units year (flagsOf (unitsIn h)) (offersIn h) i p) (efficient-at-most-offer year (getD (flagsOf (unitsIn h)) i 0) (getD (offersIn h) i 0)))
       (offer-at i p)
 
-  within-power : (u : ℕ) → 1 ≤ u → u ≤ units → efficientOfferIn h u ≤ powerIn h u
-  within-power u p q =
-      let e : suc (u - 1) ≡ u = omega arith in subst (λ n. efficientOfferIn h n ≤ powerIn h n) e (efficient-at (u - 1) (omega arith))
+  within-power : (u : ℕ) → Numbered units u → efficientOfferIn h u ≤ powerIn h u
+  within-power u n =
+      let e : suc (u - 1) ≡ u = omega (arith, n .least) in subst (λ n. efficientOfferIn h n ≤ powerIn h n) e (efficient-at (u - 1) (omega (arith, n .least, n .most)))
 
   -- a producer's limit is the efficient offers of its units, capped
-  pub limit-is : (p : ℕ) → 1 ≤ p → p ≤ producers → getD (limitsOf (unitsIn h) (efficientOffersIn h)) (p - 1) 0 ≡ min greatestLimit (producerOfferIn h p)
+  pub limit-is : (p : ℕ) → Numbered producers p → getD (limitsOf (unitsIn h) (efficientOffersIn h)) (p - 1) 0 ≡ min greatestLimit (producerOfferIn h p)
   unfolding limitsOf limitOf unitsIn
-  limit-is p lp up =
-      let e : suc (p - 1) ≡ p = omega arith in
+  limit-is p np =
+      let e : suc (p - 1) ≡ p = omega (arith, np .least) in
       let same =
       sumUp-same (λ i. pick (eqb (producerBy (getD (unitsIn h) i freshUnit .enrolment)) p) (getD (efficientOffersIn h) i 0) 0) (λ i. pick (eqb (producerBy (entryIn h (suc i))) p) (efficientOfferIn h (suc i)) 0) units
       (λ i q.
       let s : suc i - 1 ≡ i = omega arith in
       rw (getD-tab (λ j. unitIn h (suc j)) units i freshUnit q, s) refl) in
-      rw (getD-tab (λ i. limitOf (unitsIn h) (efficientOffersIn h) (suc i)) producers (p - 1) 0 (omega arith), e)
+      rw (getD-tab (λ i. limitOf (unitsIn h) (efficientOffersIn h) (suc i)) producers (p - 1) 0 (omega (arith, np .least, np .most)), e)
       (ap (min greatestLimit) same)
 
-  limit-at : (p : ℕ) → 1 ≤ p → p ≤ producers → getD (limitsOf (unitsIn h) (efficientOffersIn h)) (p - 1) 0 ≤ producerOfferIn h p
-  limit-at p lp up = rw (limit-is p lp up) (min-le-right greatestLimit (producerOfferIn h p))
-
--- no amount in a list of zeros
-sum-zeros : (n : ℕ) → _≡_ {A = ℕ} (sum (replicate n 0)) 0
-unfolding sum
-sum-zeros zero = refl
-sum-zeros (suc n) = zero-add (sum (replicate n 0)) ∙ sum-zeros n
+  limit-at : (p : ℕ) → Numbered producers p → getD (limitsOf (unitsIn h) (efficientOffersIn h)) (p - 1) 0 ≤ producerOfferIn h p
+  limit-at p np = rw (limit-is p np) (min-le-right greatestLimit (producerOfferIn h p))
 
 module _ (h : List Event) (b : Book) (k : Kept h b) where
-  producer-total : (p : ℕ) → 1 ≤ p → p ≤ producers → (t : Bool) → fixedIn h ≡ t → sum (rowOf (b .balances) p) ≤ producerOfferIn h p
-  producer-total p lp up true q =
-      le-trans (k .contracts .total-kept q p lp up) (rw (k .firm .limits-kept q) (limit-at h p lp up))
-  producer-total p lp up false q = rw (empty-row (b .balances) p (k .contracts .nothing-yet q)) zero-le
+  producer-total : (p : ℕ) → Numbered producers p → (t : Bool) → fixedIn h ≡ t → sum (rowOf (b .balances) p) ≤ producerOfferIn h p
+  producer-total p np true q =
+      le-trans (k .contracts .total-kept q p np) (rw (k .firm .limits-kept q) (limit-at h p np))
+  producer-total p np false q = rw (empty-row (b .balances) p (k .contracts .nothing-yet q)) zero-le
 
-  near : fixedIn h ≡ true → (c : ℕ) → 1 ≤ c → c ≤ consumers → (demandOf b c * totalDeclaredIn h < dmpIn h * fieldIn 1 (declaredIn h c) + totalDeclaredIn h) × (dmpIn h * fieldIn 1 (declaredIn h c) < demandOf b c * totalDeclaredIn h + totalDeclaredIn h)
-  near q c lc uc =
-      let e : suc (c - 1) ≡ c = omega arith in
+  near : fixedIn h ≡ true → (c : ℕ) → Numbered consumers c → (demandOf b c * totalDeclaredIn h < dmpIn h * fieldIn 1 (declaredIn h c) + totalDeclaredIn h) × (dmpIn h * fieldIn 1 (declaredIn h c) < demandOf b c * totalDeclaredIn h + totalDeclaredIn h)
+  near q c nc =
+      let e : suc (c - 1) ≡ c = omega (arith, nc .least) in
+      let below : c - 1 < consumers = omega (arith, nc .least, nc .most) in
       let d : demandOf b c ≡ getD (shares (dmpIn h) (declarationsIn h)) (c - 1) 0 =
-      ap (λ (x : Consumer). demandBy (x .declaration)) (consumer-at h b k c lc uc)
-      ∙ ap (λ n. demandBy (consumerIn h n .declaration)) (sym e)
-      ∙ demand-in h q (k .firm .shared q) (c - 1) (omega arith) in
+      ap (λ (x : Consumer). firmDemandBy (x .declaration)) (consumer-at h b k c nc)
+      ∙ ap (λ n. firmDemandBy (consumerIn h n .declaration)) (sym e)
+      ∙ demand-in h q (k .firm .dmp-shared q) (c - 1) below in
       let w : fieldIn 1 (declaredIn h c) ≡ getD (declarationsIn h) (c - 1) 0 =
-      ap (λ n. fieldIn 1 (declaredIn h n)) (sym e) ∙ sym (declaration-at h (c - 1) (omega arith)) in
-      rw (d, w) (share-near (dmpIn h) (declarationsIn h) (positive h q (k .firm .shared q)) (c - 1))
+      ap (λ n. fieldIn 1 (declaredIn h n)) (sym e) ∙ sym (declaration-at h (c - 1) below) in
+      rw (d, w) (share-near (dmpIn h) (declarationsIn h) (total-positive h q (k .firm .dmp-shared q)) (c - 1))
 
   -- the firm demand that the book has is the one defined
-  demand-defined : (c : ℕ) → 1 ≤ c → c ≤ consumers → (t : Bool) → fixedIn h ≡ t → demandOf b c ≡ demandIn h c
+  demand-defined : (c : ℕ) → Numbered consumers c → (t : Bool) → fixedIn h ≡ t → demandOf b c ≡ demandIn h c
   unfolding demandIn
-  demand-defined c lc uc true q =
-      let e : suc (c - 1) ≡ c = omega arith in
-      ap (λ (x : Consumer). demandBy (x .declaration)) (consumer-at h b k c lc uc)
-      ∙ ap (λ n. demandBy (consumerIn h n .declaration)) (sym e)
-      ∙ demand-in h q (k .firm .shared q) (c - 1) (omega arith)
-      ∙ sym (demand-at h q (k .firm .shared q) (c - 1))
+  demand-defined c nc true q =
+      let e : suc (c - 1) ≡ c = omega (arith, nc .least) in
+      ap (λ (x : Consumer). firmDemandBy (x .declaration)) (consumer-at h b k c nc)
+      ∙ ap (λ n. firmDemandBy (consumerIn h n .declaration)) (sym e)
+      ∙ demand-in h q (k .firm .dmp-shared q) (c - 1) (omega (arith, nc .least, nc .most))
+      ∙ sym (demand-at h q (k .firm .dmp-shared q) (c - 1))
       ∙ ap (demandIn h) e
-  demand-defined c lc uc false q =
-      ap (λ (x : Consumer). demandBy (x .declaration)) (consumer-at h b k c lc uc) ∙ none (declaredIn h c) ∙ sym zero-demand
+  demand-defined c nc false q =
+      ap (λ (x : Consumer). firmDemandBy (x .declaration)) (consumer-at h b k c nc) ∙ none (declaredIn h c) ∙ sym zero-demand
     where
       zero-demand : demandIn h c ≡ 0
       zero-demand = rw q refl
 
-      none : (l : Last) → demandBy (declarationBy (demandIn h c) l) ≡ 0
+      none : (l : Last) → firmDemandBy (declarationBy (demandIn h c) l) ≡ 0
       none never = refl
       none (last e) = zero-demand
 
   -- the injection of a unit whose call gives one
-  injection : (u : ℕ) (e : Event) → 1 ≤ u → u ≤ units → lastThat (about mark.Unit u) h ≡ last e → flagged 8 (field 3 e) ≡ true → efficientOfferIn h u ≤ field 4 e
-  injection u e lu uu q f =
+  injection : (u : ℕ) (e : Event) → Numbered units u → lastThat (about name.Unit u) h ≡ last e → flagged injectionGiven (field 3 e) ≡ true → efficientOfferIn h u ≤ field 4 e
+  injection u e nu q f =
       let cap : capOf (entryIn h u) ≡ At (record { 0 = field 4 e }) = ap (λ l. capOf (entryBy l)) q ∙ rw f refl in
-      le-trans (within-power h u lu uu) (subst (λ c. Within c (componentIn h u 0)) cap (k .plants .capped u 0))
+      le-trans (within-power h u nu) (subst (λ c. Within c (componentIn h u 0)) cap (k .plants .power-capped u 0))
 
   -- the money, where the charges were divided and where there was nothing to divide by
   module _ (closed : closedIn h ≡ true) where
     abbrev charges : ℕ
     charges = sum (allChargesIn h)
 
-    charged-is : b .charged ≡ charges
+    charged-is : b .closing .charged ≡ charges
     charged-is = k .money .charged-kept closed ∙ ap sum (k .money .charges-kept closed)
 
-    credited-is : b .credited ≡ sum (allCreditsIn h)
+    credited-is : b .closing .credited ≡ sum (allCreditsIn h)
     credited-is = k .money .credited-kept closed ∙ ap sum (k .money .credits-kept closed)
 
     if-divided : divisionNumber charges (positiveAdjustmentsIn h) consumers ≡ 0 → (sum (allCreditsIn h) ≡ charges) × (undistributedIn h ≡ 0) × (0 < sum (positiveAdjustmentsIn h))
@@ -161,39 +159,39 @@ module _ (h : List Event) (b : Book) (k : Kept h b) where
         ne-eqb (divisionNumber charges (positiveAdjustmentsIn h) consumers) 0 (λ q. absurd (omega (arith, accepted charges (positiveAdjustmentsIn h) consumers q .positive))) in
         (simp no (sum-zeros consumers), simp no)
 
-    balances : b .charged ≡ b .credited + b .undistributed
+    balances : b .closing .charged ≡ b .closing .credited + b .closing .undistributed
     balances =
         let u = k .money .undistributed-kept closed in
         ⊎-elim (λ z. let m = if-divided z in omega (arith, charged-is, credited-is, u, m .0, m .1)) (λ z. let m = if-none z in omega (arith, charged-is, credited-is, u, m .0, m .1))
-        (k .money .divided closed)
+        (k .money .charges-divided closed)
 
-    nobody : NoSurplus h → b .undistributed ≡ b .charged
+    nobody : NoSurplus h → b .closing .undistributed ≡ b .closing .charged
     nobody z = k .money .undistributed-kept closed ∙ if-none z .1 ∙ sym charged-is
 
-    somebody : (NoSurplus h → ⊥) → b .undistributed ≡ 0
+    somebody : (NoSurplus h → ⊥) → b .closing .undistributed ≡ 0
     somebody o =
-        k .money .undistributed-kept closed ∙ ⊎-elim (λ z. if-divided z .1) (λ z. absurd (o z)) (k .money .divided closed)
+        k .money .undistributed-kept closed ∙ ⊎-elim (λ z. if-divided z .1) (λ z. absurd (o z)) (k .money .charges-divided closed)
 
   holds : Demand3 h b
   holds =
       record {
         demands-add-up =
             λ q.
-            ap (λ xs. sum (map (λ (x : Consumer). demandBy (x .declaration)) xs)) (k .people .consumers-kept)
-            ∙ ap sum (demands-in h q (k .firm .shared q))
-            ∙ sum-shares (dmpIn h) (declarationsIn h) (positive h q (k .firm .shared q));
-        demand-not-above = λ q c lc uc. near q c lc uc .0;
-        demand-not-below = λ q c lc uc. near q c lc uc .1;
+            ap (λ xs. sum (map (λ (x : Consumer). firmDemandBy (x .declaration)) xs)) (k .consumers .consumers-kept)
+            ∙ ap sum (demands-in h q (k .firm .dmp-shared q))
+            ∙ sum-shares (dmpIn h) (declarationsIn h) (total-positive h q (k .firm .dmp-shared q));
+        demand-not-above = λ q c lc uc. near q c (numbered lc uc) .0;
+        demand-not-below = λ q c lc uc. near q c (numbered lc uc) .1;
         balance =
             λ p c lp up lc uc.
-            let e = k .contracts .balance-kept p c lp up lc uc in (omega (arith, e), omega (arith, e));
-        producer-total = λ p lp up. producer-total p lp up (fixedIn h) refl;
-        offer-within-power = λ u lu uu. within-power h u lu uu;
-        offer-within-injection = injection;
+            let e = k .contracts .balance-kept p c (numbered lp up) (numbered lc uc) in (omega (arith, e), omega (arith, e));
+        producer-total = λ p lp up. producer-total p (numbered lp up) (fixedIn h) refl;
+        offer-within-power = λ u lu uu. within-power h u (numbered lu uu);
+        offer-within-injection = λ u e lu uu. injection u e (numbered lu uu);
         money-balances = balances;
         nobody-to-credit = nobody;
         somebody-to-credit = somebody;
-        demands-defined = λ c lc uc. demand-defined c lc uc (fixedIn h) refl;
+        demands-defined = λ c lc uc. demand-defined c (numbered lc uc) (fixedIn h) refl;
         offers-defined = λ q. (k .firm .offers-kept q, k .firm .efficient-kept q);
         adjusted-defined = λ q. k .money .adjusted-kept q;
         charges-defined = λ q. k .money .charges-kept q;

@@ -3,20 +3,21 @@ use mathlib.Core.Path.{_≡_}
 use mathlib.Core.Bool.{Bool, true, false}
 use mathlib.Core.List.{List, [], _∷_, _++_}
 use Prim.Native.Nat.{ℕ}
-use Rattle.basis.specs.Numbers.{bytesOf}
+use lib.ListN.{replicate}
+use Rattle.basis.specs.Numbers.{bytesOf, allBytesOf}
 use Rattle.share.specs.Division.{shares}
-use Rattle.plant.specs.Quantity.{kw}
-use Rattle.plant.specs.Power.{fresh, testOf}
+use Rattle.power.specs.Quantity.{kw}
+use Rattle.power.specs.Power.{fresh, testOf}
 use Rattle.plant.specs.Efficient.{efficientOf}
-use Rattle.plant.specs.declared.component.Measured.the-variants.{Nothing, Power}
-use Rattle.plant.specs.declared.component.Availability.the-variants.{Unknown}
-use Rattle.plant.specs.declared.component.Cap.the-variants.{Free}
-use Rattle.plant.specs.declared.component.Component.{Component}
-use Rattle.book.specs.declared.state.Book.{Book}
+use Rattle.power.specs.declared.component.Measured.{Measured}
+use Rattle.power.specs.declared.component.Measured.the-variants.{Nothing, Power}
+use Rattle.power.specs.declared.component.Availability.the-variants.{Unknown}
+use Rattle.power.specs.declared.component.Cap.the-variants.{Free}
+use Rattle.power.specs.declared.component.Answer.{Answer}
 use Rattle.journal.specs.Run.{runOf}
-use Rattle.journal.specs.declared.state.Run.{Run}
-use Rattle.listing.specs.Text.{lineOf}
-use Rattle.listing.specs.Letters.{plain, unitLines, ownersOf, producerLines, demandLines, settlementLines}
+use Rattle.journal.specs.declared.outcome.Run.{Run}
+use Rattle.listing.specs.Listing.{totalsLine, countsLine}
+use Rattle.listing.specs.Letters.{unitLines, ownersOf, producerLines, demandLines, settlementLines}
 
 -- case J, record by record, with the readings of its three meters
 unfoldable pub journalWith : ℕ → ℕ → ℕ → List ℕ
@@ -59,15 +60,17 @@ unfoldable pub runAbove : Run
 runAbove = runOf (journalWith 4000 4000 4000)
 
 -- readings of 1,000 kWh each, four bytes
-unfoldable pub readings : ℕ → List ℕ
-readings count = Rattle.basis.specs.Numbers.allBytesOf 4 (lib.ListN.replicate count 1000)
+unfoldable pub equalReadings : ℕ → List ℕ
+equalReadings count = allBytesOf 4 (replicate count 1000)
 
--- a component after its first test, of TC 5
-abbrev pub firstTest : ℕ → ℕ → Component
-firstTest ending count = testOf fresh Free ending 5 count (readings count) .component
+-- what a component's first test, of TC 5, answers: the number and the component
+abbrev pub firstTest : ℕ → ℕ → Answer
+firstTest ending count = testOf fresh Free ending 5 count (equalReadings count)
 
-abbrev pub after : Bool → Rattle.plant.specs.declared.component.Measured.Measured → Component
-after memory result = record { result = result; «void_trip» = memory; availability = Unknown }
+-- an accepted test, with the memory of a void trip and the result that it leaves
+abbrev pub acceptedTest : Bool → Measured → Answer
+acceptedTest memory result =
+    record { number = 0; component = record { result = result; «void_trip» = memory; availability = Unknown } }
 
 pub record Thirteen : Type 0 where
   -- U 1 9500 9500
@@ -77,19 +80,19 @@ pub record Thirteen : Type 0 where
   -- D 1 3334, D 2 3333, D 3 3333
   pub letter-D : demandLines (runJ .book .consumers) ≡ 68 ∷ 32 ∷ 49 ∷ 32 ∷ 51 ∷ 51 ∷ 51 ∷ 52 ∷ 10 ∷ 68 ∷ 32 ∷ 50 ∷ 32 ∷ 51 ∷ 51 ∷ 51 ∷ 51 ∷ 10 ∷ 68 ∷ 32 ∷ 51 ∷ 32 ∷ 51 ∷ 51 ∷ 51 ∷ 51 ∷ 10 ∷ []
   -- S 1 334 7123560, S 2 -667 -7123560, S 3 0 0
-  pub letter-S : settlementLines (runJ .book .consumers) (runJ .book .adjusted) (runJ .book .charges) (runJ .book .credits) ≡ 83 ∷ 32 ∷ 49 ∷ 32 ∷ 51 ∷ 51 ∷ 52 ∷ 32 ∷ 55 ∷ 49 ∷ 50 ∷ 51 ∷ 53 ∷ 54 ∷ 48 ∷ 10 ∷ 83 ∷ 32 ∷ 50 ∷ 32 ∷ 45 ∷ 54 ∷ 54 ∷ 55 ∷ 32 ∷ 45 ∷ 55 ∷ 49 ∷ 50 ∷ 51 ∷ 53 ∷ 54 ∷ 48 ∷ 10 ∷ 83 ∷ 32 ∷ 51 ∷ 32 ∷ 48 ∷ 32 ∷ 48 ∷ 10 ∷ []
+  pub letter-S : settlementLines (runJ .book .consumers) (runJ .book .closing .adjusted) (runJ .book .closing .charges) (runJ .book .closing .credits) ≡ 83 ∷ 32 ∷ 49 ∷ 32 ∷ 51 ∷ 51 ∷ 52 ∷ 32 ∷ 55 ∷ 49 ∷ 50 ∷ 51 ∷ 53 ∷ 54 ∷ 48 ∷ 10 ∷ 83 ∷ 32 ∷ 50 ∷ 32 ∷ 45 ∷ 54 ∷ 54 ∷ 55 ∷ 32 ∷ 45 ∷ 55 ∷ 49 ∷ 50 ∷ 51 ∷ 53 ∷ 54 ∷ 48 ∷ 10 ∷ 83 ∷ 32 ∷ 51 ∷ 32 ∷ 48 ∷ 32 ∷ 48 ∷ 10 ∷ []
   -- T 7123560 7123560 0
-  pub letter-T : lineOf 84 (plain (runJ .book .charged) ∷ plain (runJ .book .credited) ∷ plain (runJ .book .undistributed) ∷ []) ≡ 84 ∷ 32 ∷ 55 ∷ 49 ∷ 50 ∷ 51 ∷ 53 ∷ 54 ∷ 48 ∷ 32 ∷ 55 ∷ 49 ∷ 50 ∷ 51 ∷ 53 ∷ 54 ∷ 48 ∷ 32 ∷ 48 ∷ 10 ∷ []
+  pub letter-T : totalsLine (runJ .book) ≡ 84 ∷ 32 ∷ 55 ∷ 49 ∷ 50 ∷ 51 ∷ 53 ∷ 54 ∷ 48 ∷ 32 ∷ 55 ∷ 49 ∷ 50 ∷ 51 ∷ 53 ∷ 54 ∷ 48 ∷ 32 ∷ 48 ∷ 10 ∷ []
   -- R 16 15 1
-  pub letter-R : lineOf 82 (plain (runJ .read) ∷ plain (runJ .accepted) ∷ plain (runJ .refused) ∷ []) ≡ 82 ∷ 32 ∷ 49 ∷ 54 ∷ 32 ∷ 49 ∷ 53 ∷ 32 ∷ 49 ∷ 10 ∷ []
-  -- trip not the plant's doing: below 80 % void, at 80 % over the time reached
-  pub count-3-ending-1 : firstTest 1 3 ≡ after false Nothing
-  pub count-4-ending-1 : firstTest 1 4 ≡ after false (Power (kw 4000))
-  -- trip of the plant's doing: below 80 % void and remembered, at 80 % over TC
-  pub count-3-ending-2 : firstTest 2 3 ≡ after true Nothing
-  pub count-4-ending-2 : firstTest 2 4 ≡ after false (Power (kw 3200))
+  pub letter-R : countsLine runJ ≡ 82 ∷ 32 ∷ 49 ∷ 54 ∷ 32 ∷ 49 ∷ 53 ∷ 32 ∷ 49 ∷ 10 ∷ []
+  -- trip not the plant's doing, accepted: below 80 % void, at 80 % over the time reached
+  pub count-3-ending-1 : firstTest 1 3 ≡ acceptedTest false Nothing
+  pub count-4-ending-1 : firstTest 1 4 ≡ acceptedTest false (Power (kw 4000))
+  -- trip of the plant's doing, accepted: below 80 % void and remembered, at 80 % over TC
+  pub count-3-ending-2 : firstTest 2 3 ≡ acceptedTest true Nothing
+  pub count-4-ending-2 : firstTest 2 4 ≡ acceptedTest false (Power (kw 3200))
   -- "a tie the first"
   pub tie-of-years : efficientOf 2 (1 ∷ 2 ∷ []) (500 ∷ 500 ∷ []) ≡ record { year = 1; offers = 500 ∷ 0 ∷ [] }
   pub three-equal-weights : shares 10000 (1000 ∷ 1000 ∷ 1000 ∷ []) ≡ 3334 ∷ 3333 ∷ 3333 ∷ []
   -- "charges and undistributed are both 106,800,000"
-  pub no-positive-adjustment : (runAbove .book .charged ≡ 106800000) × (runAbove .book .credited ≡ 0) × (runAbove .book .undistributed ≡ 106800000)
+  pub no-positive-adjustment : (runAbove .book .closing .charged ≡ 106800000) × (runAbove .book .closing .credited ≡ 0) × (runAbove .book .closing .undistributed ≡ 106800000)

@@ -1,31 +1,31 @@
 -- Demand 3: one claim about every list of calls, accepted and refused, from a fresh book ("The list of demand 3").
 use mathlib.Core.Path.{_≡_}
-use mathlib.Core.Bool.{Bool, true, false}
+use mathlib.Core.Bool.{true}
 use mathlib.Core.List.{List, [], map}
 use Prim.Native.Nat.{ℕ, _+_, _-_, _*_, _≤_, _<_}
 use lib.ListN.{getD}
 use Rattle.basis.specs.Sums.{sum}
-use Rattle.plant.specs.Efficient.{units, flagged}
-use Rattle.record.specs.Forms.{producers, consumers}
-use Rattle.record.specs.declared.forms.Mark.the-variants as mark
-use Rattle.book.specs.declared.state.Declaration.{Declaration}
-use Rattle.book.specs.declared.state.Declaration.the-variants.{Undeclared, Declared}
-use Rattle.book.specs.declared.state.Book.{Book}
-use Rattle.book.specs.State.{freshBook, consumerAt, cellOf, rowOf}
+use Rattle.quantities.specs.Limits.{units, producers, consumers}
+use Rattle.quantities.specs.Flags.{flagged, injectionGiven}
+use Rattle.record.specs.Names as name
+use Rattle.state.specs.declared.kept.Declaration.{Declaration}
+use Rattle.state.specs.declared.kept.Declaration.the-variants.{Undeclared, Declared}
+use Rattle.state.specs.declared.kept.Book.{Book}
+use Rattle.state.specs.State.{freshBook, consumerAt, cellOf, rowOf}
 use Rattle.book.specs.Lists.{Event, afterAll, acceptedBy}
 use Rattle.claims.specs.History.{last, field, fieldIn, lastThat, about, fixedIn, closedIn, dmpIn, declaredIn, commitmentsIn, releasesIn}
 use Rattle.claims.specs.Figures.{powerIn, offersIn, efficientOffersIn, efficientOfferIn, producerOfferIn, totalDeclaredIn, demandIn, adjustedDemandsIn, positiveAdjustmentsIn, allChargesIn, allCreditsIn, undistributedIn}
 
 -- the firm demand that the book has for a consumer, and for all of them
-abbrev pub demandBy : Declaration → ℕ
-demandBy Undeclared = 0
-demandBy (Declared f) = f .df
+abbrev pub firmDemandBy : Declaration → ℕ
+firmDemandBy Undeclared = 0
+firmDemandBy (Declared f) = f .df
 
 abbrev pub demandOf : Book → ℕ → ℕ
-demandOf b c = demandBy (consumerAt (b .consumers) c .declaration)
+demandOf b c = firmDemandBy (consumerAt (b .consumers) c .declaration)
 
 abbrev pub demandsOf : Book → List ℕ
-demandsOf b = map (λ x. demandBy (x .declaration)) (b .consumers)
+demandsOf b = map (λ x. firmDemandBy (x .declaration)) (b .consumers)
 
 -- the balance that the book has between a producer and a consumer
 abbrev pub balanceOf : Book → ℕ → ℕ → ℕ
@@ -49,20 +49,20 @@ pub record Demand3 (h : List Event) (b : Book) : Type 0 where
   -- "none above that unit's maximum power,"
   pub offer-within-power : (u : ℕ) → 1 ≤ u → u ≤ units → efficientOfferIn h u ≤ powerIn h u
   -- "nor above its authorised injection where one is given."
-  pub offer-within-injection : (u : ℕ) (e : Event) → 1 ≤ u → u ≤ units → lastThat (about mark.Unit u) h ≡ last e → flagged 8 (field 3 e) ≡ true → efficientOfferIn h u ≤ field 4 e
+  pub offer-within-injection : (u : ℕ) (e : Event) → 1 ≤ u → u ≤ units → lastThat (about name.Unit u) h ≡ last e → flagged injectionGiven (field 3 e) ≡ true → efficientOfferIn h u ≤ field 4 e
   -- "Once closed, charges equal credits plus the undistributed amount,"
-  pub money-balances : closedIn h ≡ true → b .charged ≡ b .credited + b .undistributed
+  pub money-balances : closedIn h ≡ true → b .closing .charged ≡ b .closing .credited + b .closing .undistributed
   -- "which is the whole of the charges if no consumer has a positive adjustment and otherwise zero."
-  pub nobody-to-credit : closedIn h ≡ true → NoSurplus h → b .undistributed ≡ b .charged
-  pub somebody-to-credit : closedIn h ≡ true → (NoSurplus h → ⊥) → b .undistributed ≡ 0
+  pub nobody-to-credit : closedIn h ≡ true → NoSurplus h → b .closing .undistributed ≡ b .closing .charged
+  pub somebody-to-credit : closedIn h ≡ true → (NoSurplus h → ⊥) → b .closing .undistributed ≡ 0
   -- "The book's firm demands, and each consumer's charge and credit, are the ones defined above."
   pub demands-defined : (c : ℕ) → 1 ≤ c → c ≤ consumers → demandOf b c ≡ demandIn h c
   pub offers-defined : fixedIn h ≡ true → (b .offers ≡ offersIn h) × (b .efficient ≡ efficientOffersIn h)
-  pub adjusted-defined : closedIn h ≡ true → b .adjusted ≡ adjustedDemandsIn h
-  pub charges-defined : closedIn h ≡ true → b .charges ≡ allChargesIn h
-  pub credits-defined : closedIn h ≡ true → b .credits ≡ allCreditsIn h
+  pub adjusted-defined : closedIn h ≡ true → b .closing .adjusted ≡ adjustedDemandsIn h
+  pub charges-defined : closedIn h ≡ true → b .closing .charges ≡ allChargesIn h
+  pub credits-defined : closedIn h ≡ true → b .closing .credits ≡ allCreditsIn h
   -- "Charges and credits are summed over the consumers; these sums and the undistributed amount are those of the closed book"
-  pub sums-defined : closedIn h ≡ true → (b .charged ≡ sum (b .charges)) × (b .credited ≡ sum (b .credits)) × (b .undistributed ≡ undistributedIn h)
+  pub sums-defined : closedIn h ≡ true → (b .closing .charged ≡ sum (b .closing .charges)) × (b .closing .credited ≡ sum (b .closing .credits)) × (b .closing .undistributed ≡ undistributedIn h)
 
 -- "For every list of the book's calls from a fresh book, refused ones included, this holds after the list."
 abbrev pub Claim : Type 0

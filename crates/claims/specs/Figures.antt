@@ -1,5 +1,4 @@
 -- The figures of document 01, taken from the accepted calls' fields and readings alone.
-use mathlib.Core.Bool.{Bool, true, false}
 use mathlib.Core.List.{List}
 use Prim.Native.Nat.{ℕ, suc, _-_}
 use lib.Dec.{eqb}
@@ -8,18 +7,17 @@ use Rattle.basis.specs.Choice.{pick}
 use Rattle.basis.specs.Sums.{sum, sumUp}
 use Rattle.basis.specs.Tables.{tab}
 use Rattle.share.specs.Division.{shares}
-use Rattle.plant.specs.Power.{maximumPower}
-use Rattle.plant.specs.Efficient.{units}
-use Rattle.record.specs.Forms.{consumers}
-use Rattle.book.specs.declared.state.Unit.{Unit}
-use Rattle.book.specs.declared.state.Declaration.{Declaration}
-use Rattle.book.specs.declared.state.Declaration.the-variants.{Undeclared, Declared}
-use Rattle.book.specs.declared.state.Reading.{Reading}
-use Rattle.book.specs.declared.state.Reading.the-variants.{Unread, Metered}
-use Rattle.book.specs.declared.state.Consumer.{Consumer}
+use Rattle.power.specs.Power.{maximumPower}
+use Rattle.quantities.specs.Limits.{units, consumers}
+use Rattle.state.specs.declared.kept.Unit.{Unit}
+use Rattle.state.specs.declared.kept.Declaration.{Declaration}
+use Rattle.state.specs.declared.kept.Declaration.the-variants.{Undeclared, Declared}
+use Rattle.state.specs.declared.kept.Reading.{Reading}
+use Rattle.state.specs.declared.kept.Reading.the-variants.{Unread, Metered}
+use Rattle.state.specs.declared.kept.Consumer.{Consumer}
 use Rattle.book.specs.Lists.{Event}
-use Rattle.book.specs.Fix.{offersOf, efficientIn, producerBy}
-use Rattle.book.specs.Close.{adjustedIn, surplusesIn, chargesIn, creditsOf, undistributedOf}
+use Rattle.fix.specs.Fix.{offersOf, efficientIn, producerBy}
+use Rattle.close.specs.Close.{adjustedIn, surplusesIn, chargesIn, creditsOf, undistributedOf}
 use Rattle.claims.specs.History.{Last, never, last, field, fieldIn, fixedIn, hoursIn, dmpIn, priceIn, declaredIn, meteredIn, entryIn, componentIn}
 
 -- a unit and its components

@@ -1,13 +1,12 @@
 -- What the run over a journal of any bytes promises, beyond its own definition.
 use mathlib.Core.Path.{_≡_}
-use mathlib.Core.List.{List, [], _++_}
+use mathlib.Core.List.{List, [], _∷_, _++_}
 use Prim.Native.Nat.{ℕ, suc, _+_}
 use lib.ListN.{length}
-use Rattle.book.specs.State.{freshBook}
+use Rattle.state.specs.State.{freshBook}
 use Rattle.book.specs.Lists.{acceptedBy}
-use Rattle.journal.specs.Run.{runOf, runFrom}
+use Rattle.journal.specs.Run.{namedPlaces, runOf, runFrom}
 use Rattle.journal.specs.Calls.{callsOf, FirstRefusedAt}
-use Rattle.journal.specs.declared.state.FirstRefused.the-variants.{Nothing, At}
 use Rattle.claims.specs.Demand.{Demand3}
 
 pub record EveryJournal (journal : List ℕ) : Type 0 where
@@ -16,8 +15,8 @@ pub record EveryJournal (journal : List ℕ) : Type 0 where
   -- records read are those accepted and those refused
   pub counts : runOf journal .read ≡ runOf journal .accepted + runOf journal .refused
   -- a named place is that of a refused record, the first one
-  pub named : (place : ℕ) → runOf journal .first ≡ At place → FirstRefusedAt journal place
+  pub named : (place : ℕ) → namedPlaces (runOf journal .first) ≡ place ∷ [] → FirstRefusedAt journal place
   -- none is named only where none was refused
-  pub none-named : runOf journal .first ≡ Nothing → runOf journal .refused ≡ 0
+  pub none-named : namedPlaces (runOf journal .first) ≡ [] → runOf journal .refused ≡ 0
   -- the run of a journal's beginning that stops nowhere is the run's beginning
   pub beginning : (more : List ℕ) → runOf journal .stop ≡ 0 → runOf (journal ++ more) ≡ runFrom (suc (length (journal ++ more))) (journal ++ more) (runOf journal)

@@ -1,20 +1,18 @@
 -- The number that a call meets, by the listed conditions over the accepted calls before it ("Numbered replies").
 use mathlib.Core.Path.{_≡_}
-use mathlib.Core.Bool.{Bool, true, false}
 use mathlib.Core.List.{List, []}
 use Prim.Native.Nat.{ℕ, suc, _+_, _-_}
 use lib.Dec.{eqb, ltb}
 use Rattle.basis.specs.Choice.{pick}
 use Rattle.basis.specs.Sums.{sumUp, allAtMost}
-use Rattle.plant.specs.Ranges.{greatestPower}
-use Rattle.plant.specs.Power.{countFits}
+use Rattle.quantities.specs.Limits.{greatestPower, consumers}
+use Rattle.power.specs.Power.{countFits}
 use Rattle.plant.specs.Availability.{minutes, minutesFit}
-use Rattle.record.specs.Forms.{consumers}
 use Rattle.record.specs.declared.calls.Call.{Call}
 use Rattle.record.specs.declared.calls.Call.the-variants as call
-use Rattle.record.specs.declared.forms.Mark.the-variants as mark
-use Rattle.book.specs.State.{freshBook, ranged}
-use Rattle.book.specs.Gathering.{hasTest, hasAvailability}
+use Rattle.record.specs.Names as name
+use Rattle.state.specs.State.{freshBook, ranged}
+use Rattle.decision.specs.Gathering.{hasTest, hasAvailability}
 use Rattle.book.specs.Lists.{Event, replyTo, afterAll, acceptedBy}
 use Rattle.claims.specs.History.{Last, never, last, field, lastThat, about, happened, stageIn, declaredIn, commitmentsIn, releasesIn}
 use Rattle.claims.specs.Figures.{producerOfferIn, totalDeclaredIn, adjustedDemandsIn}
@@ -25,7 +23,7 @@ atStage own h rest = pick (eqb (stageIn h) own) rest 4
 
 -- 5: unit already enrolled; 6: unit not enrolled, else what its kind says
 abbrev pub notEnrolled : List Event → ℕ → ℕ
-notEnrolled h u = pick (happened (lastThat (about mark.Unit u) h)) 5 0
+notEnrolled h u = pick (happened (lastThat (about name.Unit u) h)) 5 0
 
 abbrev pub enrolledAs : Last → (ℕ → ℕ) → ℕ
 enrolledAs never rest = 6
@@ -50,12 +48,12 @@ numberIn h (call.Unit unit producer kind flags pic ppr e1 e2 cap) readings =
 numberIn h (call.Test unit component ending tc count) readings =
     ranged (call.Test unit component ending tc count) readings
     (atStage 1 h
-    (enrolledAs (lastThat (about mark.Unit unit) h)
+    (enrolledAs (lastThat (about name.Unit unit) h)
     (λ kind. pick (hasTest kind component) (pick (countFits ending tc count) 0 8) 7)))
 numberIn h (call.Availability unit component hd hmp hif hed) readings =
     ranged (call.Availability unit component hd hmp hif hed) []
     (atStage 1 h
-    (enrolledAs (lastThat (about mark.Unit unit) h)
+    (enrolledAs (lastThat (about name.Unit unit) h)
     (λ kind. pick (hasAvailability kind component) (pick (minutesFit (minutes hd hmp hif hed)) 0 9) 7)))
 numberIn h (call.Declare consumer d a) readings = ranged (call.Declare consumer d a) [] (atStage 1 h 0)
 numberIn h (call.Fix dmp) readings = ranged (call.Fix dmp) [] (atStage 1 h (pick (eqb (totalDeclaredIn h) 0) 13 0))

@@ -8,12 +8,12 @@ use Rattle.record.specs.declared.calls.Call.{Call}
 use Rattle.record.specs.declared.reading.Read.{Read}
 use Rattle.record.specs.declared.reading.Read.the-variants.{End, Cut, Unknown, Record}
 use Rattle.record.specs.Reading.{readAt, partOf}
-use Rattle.book.specs.declared.state.Book.{Book}
-use Rattle.book.specs.State.{freshBook}
+use Rattle.state.specs.declared.kept.Book.{Book}
+use Rattle.state.specs.State.{freshBook}
 use Rattle.book.specs.Lists.{Event, afterAll}
-use Rattle.journal.specs.declared.state.Run.{Run}
+use Rattle.journal.specs.declared.outcome.Run.{Run}
 use Rattle.journal.specs.Run.{started, runFrom, runOf}
-use Rattle.journal.specs.Calls.{callsFrom, placesFrom, callsOf, placesOf, numbersAfter}
+use Rattle.journal.specs.Calls.{callsFrom, placesFrom, callsOf, recordPlaces, numbersAfter}
 use Rattle.journal.proofs.Turns.{turned, run-end, run-cut, run-unknown, run-record}
 
 abbrev pub event : List ℕ → Call → ℕ → ℕ → Event
@@ -77,8 +77,8 @@ length-places-from (suc n) s at = go (readAt s at) refl (λ next. length-places-
     go Unknown e f = rw (e, placesFrom, callsFrom)
     go (Record c from next) e f = rw (e, placesFrom, callsFrom) (ap suc (f next))
 
-pub length-places : (s : List ℕ) → length (placesOf s) ≡ length (callsOf s)
-unfolding placesOf callsOf
+pub length-places : (s : List ℕ) → length (recordPlaces s) ≡ length (callsOf s)
+unfolding recordPlaces callsOf
 length-places s = length-places-from (suc (length s)) s 0
 
 pub length-numbers : (b : Book) (es : List Event) → length (numbersAfter b es) ≡ length es

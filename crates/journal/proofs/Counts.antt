@@ -10,11 +10,11 @@ use Rattle.record.specs.declared.calls.Call.{Call}
 use Rattle.record.specs.declared.reading.Read.{Read}
 use Rattle.record.specs.declared.reading.Read.the-variants.{End, Cut, Unknown, Record}
 use Rattle.record.specs.Reading.{readAt, partOf}
-use Rattle.book.specs.declared.state.Reply.{Reply}
+use Rattle.state.specs.declared.kept.Reply.{Reply}
 use Rattle.book.specs.Step.{stepOf}
-use Rattle.journal.specs.declared.state.FirstRefused.{FirstRefused}
-use Rattle.journal.specs.declared.state.FirstRefused.the-variants.{Nothing, At}
-use Rattle.journal.specs.declared.state.Run.{Run}
+use Rattle.journal.specs.declared.outcome.FirstRefused.{FirstRefused}
+use Rattle.journal.specs.declared.outcome.FirstRefused.the-variants.{Nothing, At}
+use Rattle.journal.specs.declared.outcome.Run.{Run}
 use Rattle.journal.specs.Run.{started, answered, stopped, runFrom, runOf}
 use Rattle.journal.proofs.Reading.{next-above, next-within, end-behind}
 use Rattle.journal.proofs.Turns.{turned, run-end, run-cut, run-unknown, run-record}

@@ -11,41 +11,41 @@ use Rattle.record.specs.declared.calls.Call.{Call}
 use Rattle.record.specs.declared.reading.Read.{Read}
 use Rattle.record.specs.declared.reading.Read.the-variants.{End, Cut, Unknown, Record}
 use Rattle.record.specs.Reading.{readAt, partOf}
-use Rattle.book.specs.declared.state.Reply.{Reply}
+use Rattle.state.specs.declared.kept.Reply.{Reply}
 use Rattle.book.specs.Step.{stepOf}
 use Rattle.book.specs.Lists.{Event}
-use Rattle.journal.specs.declared.state.FirstRefused.{FirstRefused}
-use Rattle.journal.specs.declared.state.FirstRefused.the-variants.{Nothing, At}
-use Rattle.journal.specs.declared.state.Run.{Run}
+use Rattle.journal.specs.declared.outcome.FirstRefused.{FirstRefused}
+use Rattle.journal.specs.declared.outcome.FirstRefused.the-variants.{Nothing, At}
+use Rattle.journal.specs.declared.outcome.Run.{Run}
 use Rattle.journal.specs.Run.{started, refusedAt, answered, stopped, runFrom, runOf}
-use Rattle.journal.specs.Calls.{callsFrom, placesFrom, callsOf, placesOf, numbersAfter, numbersOf, FirstRefusedAt}
+use Rattle.journal.specs.Calls.{callsFrom, placesFrom, callsOf, recordPlaces, numbersAfter, replyNumbers, FirstRefusedAt}
 use Rattle.journal.proofs.Turns.{turned, run-end, run-cut, run-unknown, run-record}
 use Rattle.journal.proofs.Counts.{run-keeps}
 use Rattle.journal.proofs.Calls.{event, calls-record, places-record}
 
 -- none is named exactly where none was refused
-pub record Told (r : Run) : Type 0 where
+pub record Naming (r : Run) : Type 0 where
   pub none : r .first ≡ Nothing → r .refused ≡ 0
   pub some : (place : ℕ) → r .first ≡ At place → 0 < r .refused
 
 no-place : {A : Type 0} {place : ℕ} → At place ≡ Nothing → A
 no-place e = let z : _≡_ {A = ℕ} 0 1 = cc in absurd (omega arith)
 
-told-answer : (r : Run) (reply : Reply) (next : ℕ) → Told r → Told (answered r reply next)
-told-answer r reply next h = go (eqb (reply .number) 0) refl
+naming-answer : (r : Run) (reply : Reply) (next : ℕ) → Naming r → Naming (answered r reply next)
+naming-answer r reply next h = go (eqb (reply .number) 0) refl
   where
     named : (f : FirstRefused) → refusedAt f (r .place) ≡ Nothing → r .refused + 1 ≡ 0
     named Nothing e = no-place e
     named (At first) e = no-place e
 
-    go : (t : Bool) → eqb (reply .number) 0 ≡ t → Told (answered r reply next)
+    go : (t : Bool) → eqb (reply .number) 0 ≡ t → Naming (answered r reply next)
     go true e = record { none = rw e (h .none); some = rw e (h .some) }
     go false e = record { none = rw e (named (r .first)); some = rw e (λ place k. omega arith) }
 
-pub told : (s : List ℕ) → Told (runOf s)
+pub naming : (s : List ℕ) → Naming (runOf s)
 unfolding runOf started
-told s =
-    run-keeps Told s told-answer (λ r number h. record { none = h .none; some = h .some }) (suc (length s)) started
+naming s =
+    run-keeps Naming s naming-answer (λ r number h. record { none = h .none; some = h .some }) (suc (length s)) started
     (record { none = λ e. refl; some = λ place e. no-place (sym e) })
 
 -- a place that is named stays
@@ -137,7 +137,7 @@ named-from (suc n) s r place h e = go (readAt s (r .place)) refl (λ q a b. name
 
 -- a named place is that of the first refused record
 pub named-first : (s : List ℕ) (place : ℕ) → runOf s .first ≡ At place → FirstRefusedAt s place
-unfolding runOf started callsOf placesOf numbersOf
+unfolding runOf started callsOf recordPlaces replyNumbers
 named-first s place e =
     let w = named-from (suc (length s)) s started place refl e in
     record { index = w .index; read = w .read; placed = w .placed; refused = w .refused; earlier = w .earlier }

@@ -8,19 +8,13 @@ use lib.ListN.{length}
 use Rattle.record.specs.declared.reading.Read.{Read}
 use Rattle.record.specs.declared.reading.Read.the-variants.{End, Cut, Unknown, Record}
 use Rattle.record.specs.Reading.{readAt}
-use Rattle.journal.specs.declared.state.Run.{Run}
+use Rattle.journal.specs.declared.outcome.Run.{Run}
 use Rattle.journal.specs.Run.{started, stopped, runFrom, runOf}
 use Rattle.journal.specs.Calls.{callsFrom, callsOf}
+use Rattle.journal.specs.Promises.{Ends, RunEnds, ReadLength}
 use Rattle.journal.proofs.Reading.{next-above, next-within, end-behind}
 use Rattle.journal.proofs.Turns.{turned, run-end, run-cut, run-unknown, run-record}
 use Rattle.journal.proofs.Calls.{calls-end, calls-cut, calls-unknown, calls-record}
-
--- without a stop the journal has ended; with one a record that is cut short or an unknown mark stands at its place
-pub record Ends (s : List ℕ) (r : Run) : Type 0 where
-  pub whole : r .stop ≡ 0 → r .place ≡ length s
-  pub cut : r .stop ≡ 1 → readAt s (r .place) ≡ Cut
-  pub unknown : r .stop ≡ 2 → readAt s (r .place) ≡ Unknown
-  pub numbers : r .stop ≤ 2
 
 ends-from : (n : ℕ) (s : List ℕ) (r : Run) → length s - r .place < n → r .place ≤ length s → r .stop ≡ 0 → Ends s (runFrom n s r)
 ends-from zero s r h k z = absurd (omega arith)
@@ -56,7 +50,7 @@ ends-from (suc n) s r h k z = go (readAt s (r .place)) refl (λ q a b c. ends-fr
         let b = next-within s (r .place) e in
         rw (run-record n s r e) (f (turned s r c from next) (omega arith) b z)
 
-pub run-ends : (s : List ℕ) → Ends s (runOf s)
+pub run-ends : RunEnds
 unfolding runOf started
 run-ends s = ends-from (suc (length s)) s started (omega arith) (omega arith) refl
 
@@ -73,6 +67,6 @@ read-from (suc n) s r = go (readAt s (r .place)) refl (λ q. read-from n s q)
     go (Record c from next) e f =
         rw (run-record n s r e, calls-record n s (r .place) e) (omega (arith, f (turned s r c from next)))
 
-pub read-length : (s : List ℕ) → runOf s .read ≡ length (callsOf s)
+pub read-length : ReadLength
 unfolding runOf callsOf started
 read-length s = omega (arith, read-from (suc (length s)) s started)

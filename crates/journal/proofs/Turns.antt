@@ -9,7 +9,7 @@ use Rattle.record.specs.declared.reading.Read.{Read}
 use Rattle.record.specs.declared.reading.Read.the-variants.{End, Cut, Unknown, Record}
 use Rattle.record.specs.Reading.{readAt, partOf}
 use Rattle.book.specs.Step.{stepOf}
-use Rattle.journal.specs.declared.state.Run.{Run}
+use Rattle.journal.specs.declared.outcome.Run.{Run}
 use Rattle.journal.specs.Run.{started, answered, stopped, runFrom, runOf}
 use Rattle.journal.proofs.Reading.{next-above, next-within, read-more, part-more, at-end}
 

@@ -11,16 +11,17 @@ use Rattle.record.specs.declared.calls.Call.{Call}
 use Rattle.record.specs.declared.reading.Read.{Read}
 use Rattle.record.specs.declared.reading.Read.the-variants.{End, Cut, Unknown, Record}
 use Rattle.record.specs.Reading.{readAt, stopNumber, partOf}
-use Rattle.book.specs.declared.state.Book.{Book}
-use Rattle.book.specs.declared.state.Reply.{Reply}
-use Rattle.book.specs.declared.changes.Change.{Change}
-use Rattle.book.specs.declared.changes.Places.{Places}
-use Rattle.book.specs.State.{freshUnit, freshConsumer, freshBook}
+use Rattle.state.specs.declared.kept.Book.{Book}
+use Rattle.state.specs.declared.kept.Reply.{Reply}
+use Rattle.decision.specs.declared.changes.Change.{Change}
+use Rattle.decision.specs.declared.changes.Places.{Places}
+use Rattle.state.specs.State.{freshUnit, freshConsumer, freshBook}
 use Rattle.book.specs.Step.{stepOf}
-use Rattle.book.specs.Changes.{placesOf, decideOf, decidedIn, settledOf}
+use Rattle.decision.specs.Changes.{placesOf, decideOf, decidedIn}
+use Rattle.book.specs.Settlement.{settledOf}
 use Rattle.book.proofs.Settled.{step-law}
-use Rattle.journal.specs.declared.state.Run.{Run}
-use Rattle.journal.specs.declared.state.Tally.{Tally}
+use Rattle.journal.specs.declared.outcome.Run.{Run}
+use Rattle.journal.specs.declared.outcome.Tally.{Tally}
 use Rattle.journal.specs.Run.{started, answered, stopped, runFrom, runOf}
 use Rattle.journal.specs.Tally.{noTally, tallied, runWith}
 use Rattle.journal.proofs.Reading.{next-above, next-within}

@@ -6,8 +6,8 @@ use lib.ListN.{length, getD}
 use Rattle.record.specs.declared.reading.Read.{Read}
 use Rattle.record.specs.declared.reading.Read.the-variants.{End, Cut, Unknown, Record}
 use Rattle.record.specs.Reading.{readAt, partOf}
-use Rattle.book.specs.declared.state.Book.{Book}
-use Rattle.book.specs.State.{freshBook}
+use Rattle.state.specs.declared.kept.Book.{Book}
+use Rattle.state.specs.State.{freshBook}
 use Rattle.book.specs.Lists.{Event, replyTo}
 
 -- the calls from a place on, in so many turns; "A read test shows its readings as that part of the lent journal."
@@ -35,8 +35,8 @@ placesFrom (suc turns) s at =
 unfoldable pub callsOf : List ℕ → List Event
 callsOf s = callsFrom (suc (length s)) s 0
 
-unfoldable pub placesOf : List ℕ → List ℕ
-placesOf s = placesFrom (suc (length s)) s 0
+unfoldable pub recordPlaces : List ℕ → List ℕ
+recordPlaces s = placesFrom (suc (length s)) s 0
 
 -- the number of each call's reply
 unfoldable pub numbersAfter : Book → List Event → List ℕ
@@ -44,13 +44,13 @@ numbersAfter b [] = []
 numbersAfter b (e ∷ es) = replyTo b e .number ∷ numbersAfter (replyTo b e .book) es
 
 -- the numbers of the replies to the calls that a run reads
-unfoldable pub numbersOf : List ℕ → List ℕ
-numbersOf s = numbersAfter freshBook (callsOf s)
+unfoldable pub replyNumbers : List ℕ → List ℕ
+replyNumbers s = numbersAfter freshBook (callsOf s)
 
 -- the record at a place is the first of the read records that was refused
 pub record FirstRefusedAt (s : List ℕ) (place : ℕ) : Type 0 where
   pub index : ℕ
   pub read : index < length (callsOf s)
-  pub placed : getD (placesOf s) index 0 ≡ place
-  pub refused : getD (numbersOf s) index 0 ≡ 0 → ⊥
-  pub earlier : (k : ℕ) → k < index → getD (numbersOf s) k 0 ≡ 0
+  pub placed : getD (recordPlaces s) index 0 ≡ place
+  pub refused : getD (replyNumbers s) index 0 ≡ 0 → ⊥
+  pub earlier : (k : ℕ) → k < index → getD (replyNumbers s) k 0 ≡ 0

@@ -2,3 +2,4 @@
 pub mod Run
 pub mod Calls
 pub mod Tally
+pub mod Promises

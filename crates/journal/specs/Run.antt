@@ -1,24 +1,29 @@
 -- The run over a journal ("Journal records").
 use mathlib.Core.Bool.{Bool}
-use mathlib.Core.List.{List}
+use mathlib.Core.List.{List, [], _∷_}
 use Prim.Native.Nat.{ℕ, zero, suc, _+_}
 use lib.Dec.{eqb}
 use lib.ListN.{length}
 use Rattle.basis.specs.Choice.{pick}
 use Rattle.record.specs.declared.reading.Read.{Read}
 use Rattle.record.specs.declared.reading.Read.the-variants.{End, Cut, Unknown, Record}
-use Rattle.record.specs.Reading.{readAt, partOf}
-use Rattle.book.specs.declared.state.Reply.{Reply}
-use Rattle.book.specs.State.{freshBook}
+use Rattle.record.specs.Reading.{readAt, stopNumber, partOf}
+use Rattle.state.specs.declared.kept.Reply.{Reply}
+use Rattle.state.specs.State.{freshBook}
 use Rattle.book.specs.Step.{stepOf}
-use Rattle.journal.specs.declared.state.FirstRefused.{FirstRefused}
-use Rattle.journal.specs.declared.state.FirstRefused.the-variants.{Nothing, At}
-use Rattle.journal.specs.declared.state.Run.{Run}
+use Rattle.journal.specs.declared.outcome.FirstRefused.{FirstRefused}
+use Rattle.journal.specs.declared.outcome.FirstRefused.the-variants.{Nothing, At}
+use Rattle.journal.specs.declared.outcome.Run.{Run}
 
 -- "The run starts from a fresh book"
 unfoldable pub started : Run
 started =
     record { book = freshBook; read = 0; accepted = 0; refused = 0; stop = 0; place = 0; first = Nothing }
+
+-- what the answer names: no place where nothing was refused, else the place of one record
+abbrev pub namedPlaces : FirstRefused → List ℕ
+namedPlaces Nothing = []
+namedPlaces (At place) = place ∷ []
 
 -- a record was refused at a place: the first such place stays
 abbrev pub refusedAt : FirstRefused → ℕ → FirstRefused
@@ -58,8 +63,8 @@ runFrom zero s r = r
 runFrom (suc turns) s r =
     elim (readAt s (r .place)) [
       | End ↦ r
-      | Cut ↦ stopped r 1
-      | Unknown ↦ stopped r 2
+      | Cut ↦ stopped r (stopNumber Cut)
+      | Unknown ↦ stopped r (stopNumber Unknown)
       | Record call readings next ↦
           runFrom turns s (answered r (stepOf (r .book) call (partOf s readings next)) next)
     ]

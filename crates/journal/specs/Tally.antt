@@ -2,10 +2,10 @@
 use Prim.Native.Nat.{ℕ, _+_}
 use lib.Dec.{eqb}
 use Rattle.basis.specs.Choice.{pick}
-use Rattle.book.specs.declared.state.Book.{Book}
-use Rattle.journal.specs.declared.state.FirstRefused.the-variants.{Nothing}
-use Rattle.journal.specs.declared.state.Run.{Run}
-use Rattle.journal.specs.declared.state.Tally.{Tally}
+use Rattle.state.specs.declared.kept.Book.{Book}
+use Rattle.journal.specs.declared.outcome.FirstRefused.the-variants.{Nothing}
+use Rattle.journal.specs.declared.outcome.Run.{Run}
+use Rattle.journal.specs.declared.outcome.Tally.{Tally}
 use Rattle.journal.specs.Run.{refusedAt}
 
 abbrev pub noTally : Tally

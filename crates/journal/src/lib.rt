@@ -1,7 +1,7 @@
 // The run over a journal of any bytes and any length ("Journal records").
-mod state; // state.rt: what the run returns
+mod outcome; // outcome.rt: what the run returns, and what it counts
 mod running; // running.rt: the run
 
+pub use outcome::FirstRefused;
+pub use outcome::Run;
 pub use running::run;
-pub use state::FirstRefused;
-pub use state::Run;

@@ -1,21 +1,23 @@
-// The run: each record's call is decided from the parts of the book that it concerns, and what changes is stored in place.
+// The run: each record's call is decided from the parts of the book that it concerns, and what changes is stored in place; year, fix and
+// close are calls on the whole book.
 ghost use mathlib.Core.Path.{_≡_};
 ghost use Rattle.journal.specs.Run.{runOf};
-use crate::state::Run;
-use crate::state::counted;
-use crate::state::ended;
-use crate::state::no_tally;
-use book::Change;
-use book::begin;
-use book::close_book;
-use book::decide;
-use book::fix_book;
-use book::fresh;
-use book::places_of;
+use crate::outcome::Run;
+use crate::outcome::counted;
+use crate::outcome::ended;
+use crate::outcome::no_tally;
+use book::calls::close;
+use book::calls::fix;
+use book::calls::year;
+use close::close_number;
+use decision::Change;
+use decision::decide;
+use decision::places_of;
 use record::Read;
 use record::read_at;
 use record::readings_of;
 use record::stop_number;
+use state::fresh;
 
 // The run over a journal, from a fresh book.
 pub fn run(journal: &[u8]) -> Run
@@ -68,18 +70,25 @@ pub fn run(journal: &[u8]) -> Run
                 tally = counted(tally, 0, next);
             }
             Change::ToGathering(hours) => {
-                book = begin(book, hours);
-                tally = counted(tally, 0, next);
+                let begun = year(book, hours.nhrm, hours.nhmd, hours.ndhmd);
+                book = begun.book;
+                tally = counted(tally, begun.number, next);
             }
             Change::ToFirm(dmp) => {
-                let reply = fix_book(book, dmp);
+                let reply = fix(book, dmp);
                 book = reply.book;
                 tally = counted(tally, reply.number, next);
             }
             Change::ToClosed(p) => {
-                let reply = close_book(book, p);
-                book = reply.book;
-                tally = counted(tally, reply.number, next);
+                let consumers = book.consumers;
+                let number = close_number(stage, book.dmp, consumers, p);
+                if number != 0 {
+                    tally = counted(tally, number, next);
+                } else {
+                    let reply = close(book, p);
+                    book = reply.book;
+                    tally = counted(tally, reply.number, next);
+                }
             }
         }
     }

@@ -10,11 +10,11 @@ use lib.ListN.{length, take, drop}
 use lib.Seq.{take-at}
 use Rattle.basis.specs.Numbers.{written}
 use Rattle.basis.specs.Choice.{pick}
-use Rattle.journal.specs.declared.state.Run.{Run}
+use Rattle.journal.specs.declared.outcome.Run.{Run}
 use Rattle.journal.specs.Run.{runOf}
 use Rattle.listing.specs.declared.Listed.{Listed}
-use Rattle.listing.specs.Text.{Puts}
-use Rattle.listing.specs.Listing.{listingOf, listingMost, listed, listedOf, listedIn, Lists, outputOf, ListsJournal}
+use Rattle.text.specs.Text.{Puts}
+use Rattle.listing.specs.Listing.{listingOf, listingMost, listed, listedOf, listedIn, Lists, outputOf, ListsJournal, mostInput, tooLong}
 
 module _ (text : List ℕ) (short : length text ≤ listingMost) (out : List ℕ) where
   -- the buffer is shorter than the text
@@ -44,23 +44,23 @@ module _ {m n : ℕ} {text old new : List ℕ} (put : Puts m text old 0 n new) w
   pub front-length : n ≡ length (take n new)
   front-length = as-long ∙ ap length (sym front)
 
--- with number 0 the length is that of the text
-listed-length : (text : List ℕ) (room : ℕ) → listedOf text room .number ≡ 0 → listedOf text room .length ≡ length text
+-- with number 0 the size is that of the text
+listed-size : (text : List ℕ) (room : ℕ) → listedOf text room .number ≡ 0 → listedOf text room .size ≡ length text
 unfolding listedOf
-listed-length text room = go (ltb room (length text))
+listed-size text room = go (ltb room (length text))
   where
-    go : (t : Bool) → pick t (listed 15 0) (listed 0 (length text)) .number ≡ 0 → pick t (listed 15 0) (listed 0 (length text)) .length ≡ length text
+    go : (t : Bool) → pick t (listed 15 0) (listed 0 (length text)) .number ≡ 0 → pick t (listed 15 0) (listed 0 (length text)) .size ≡ length text
     go true e = absurd (omega arith)
     go false e = refl
 
 -- what was put fits the buffer
-pub listed-fits : {text old new : List ℕ} {r : Listed} → Lists text old r new → r .length ≤ length old
+pub listed-fits : {text old new : List ℕ} {r : Listed} → Lists text old r new → r .size ≤ length old
 unfolding listedOf
 listed-fits {text} {old} {new} {r} h = go (ltb (length old) (length text)) refl (h .answer)
   where
-    go : (t : Bool) → ltb (length old) (length text) ≡ t → r ≡ pick t (listed 15 0) (listed 0 (length text)) → r .length ≤ length old
-    go true e k = omega (arith, ap (λ (x : Listed). x .length) k)
-    go false e k = omega (arith, ap (λ (x : Listed). x .length) k, ltb-false (length old) (length text) e)
+    go : (t : Bool) → ltb (length old) (length text) ≡ t → r ≡ pick t (listed 15 0) (listed 0 (length text)) → r .size ≤ length old
+    go true e k = omega (arith, ap (λ (x : Listed). x .size) k)
+    go false e k = omega (arith, ap (λ (x : Listed). x .size) k, ltb-false (length old) (length text) e)
 
 -- a buffer of the bound is enough
 pub listed-whole : {text old new : List ℕ} {r : Listed} → Lists text old r new → listingMost ≤ length old → r ≡ listed 0 (length text)
@@ -68,37 +68,37 @@ unfolding listedOf
 listed-whole {text} {old} {new} {r} h k =
     h .answer ∙ rw (le-ltb (length old) (length text) (omega (arith, h .short)))
 
-module _ (s : List ℕ) {old new : List ℕ} {run : Run} {r : Listed} (size : ℕ) (e : run ≡ runOf s) (h : Lists (listingOf run) old r new) where
+module _ (s : List ℕ) {old new : List ℕ} {run : Run} {r : Listed} (before : ℕ) (e : run ≡ runOf s) (h : Lists (listingOf run) old r new) where
   lists : Lists (listingOf (runOf s)) old r new
   lists = rw e at h
 
   -- nothing is told
-  pub journal-refused : (r .number ≡ 0 → ⊥) → ListsJournal s old size (r .number) new size
+  pub journal-refused : (r .number ≡ 0 → ⊥) → ListsJournal s old before (r .number) new before
   journal-refused n =
       record {
         answer = ap (λ (x : Listed). x .number) (lists .answer);
         bytes = lists .bytes;
-        length = rw (ne-eqb (r .number) 0 n);
+        size = rw (ne-eqb (r .number) 0 n);
         short = lists .short;
       }
 
-  -- the length is told
-  pub journal-put : r .number ≡ 0 → ListsJournal s old size 0 new (r .length)
+  -- the size is told
+  pub journal-put : r .number ≡ 0 → ListsJournal s old before 0 new (r .size)
   journal-put n =
       let a : r .number ≡ listedOf (listingOf (runOf s)) (length old) .number = ap (λ (x : Listed). x .number) (lists .answer) in
       record {
         answer = sym n ∙ a;
         bytes = lists .bytes;
-        length =
-            ap (λ (x : Listed). x .length) (lists .answer) ∙ listed-length (listingOf (runOf s)) (length old) (sym a ∙ n);
+        size =
+            ap (λ (x : Listed). x .size) (lists .answer) ∙ listed-size (listingOf (runOf s)) (length old) (sym a ∙ n);
         short = lists .short;
       }
 
 -- the output of an input that is too long, and of another
-pub output-cross : (input : List ℕ) → 65536 < length input → outputOf input ≡ 88 ∷ 10 ∷ []
+pub output-too-long : (input : List ℕ) → mostInput < length input → outputOf input ≡ tooLong
 unfolding outputOf
-output-cross input h = rw (lt-ltb 65536 (length input) h)
+output-too-long input h = rw (lt-ltb mostInput (length input) h)
 
-pub output-listing : (input : List ℕ) → length input ≤ 65536 → outputOf input ≡ listingOf (runOf input)
+pub output-listing : (input : List ℕ) → length input ≤ mostInput → outputOf input ≡ listingOf (runOf input)
 unfolding outputOf
-output-listing input h = rw (le-ltb 65536 (length input) h)
+output-listing input h = rw (le-ltb mostInput (length input) h)

@@ -10,8 +10,11 @@ use lib.Dec.{eqb}
 use lib.ListN.{length, getD, take, drop, drop-of-length-le}
 use lib.Seq.{drop-cons}
 use Rattle.basis.specs.Choice.{pick}
-use Rattle.record.specs.Forms.{consumers}
-use Rattle.book.specs.State.{rowOf}
+use Rattle.basis.specs.Sums.{sum}
+use Rattle.basis.proofs.Answers.{in-between}
+use Rattle.quantities.specs.Limits.{producers}
+use Rattle.state.specs.State.{rowOf}
+use Rattle.decision.specs.Firm.{producerBalance}
 use Rattle.listing.specs.Letters.{owns}
 
 module _ (l : List ℕ) (i p : ℕ) where
@@ -29,9 +32,6 @@ module _ (l : List ℕ) (i p : ℕ) where
   unfolding owns
   owns-none h = rw (drop-of-length-le l h)
 
--- a producer's balances, taken out of all
-pub row-at : (balances : List ℕ) (i : ℕ) → take (i * consumers + consumers - i * consumers) (drop (i * consumers) balances) ≡ rowOf balances (i + 1)
-row-at balances i =
-    let n : i * consumers + consumers - i * consumers ≡ consumers = omega arith in
-    let k : i + 1 - 1 ≡ i = omega arith in
-    rw (n, k)
+-- the sum of a producer's balances
+pub balance-at : (balances : List ℕ) (i : ℕ) → i < producers → producerBalance balances (i + 1) ≡ sum (rowOf balances (i + 1))
+balance-at balances i h = rw (in-between 1 producers (i + 1) (omega arith) (omega arith))

@@ -1,45 +1,22 @@
 -- The lines of each letter ("Journal in, listing out"); "within a letter the numbers ascend".
 use mathlib.Core.Bool.{Bool, true, false}
-use mathlib.Core.List.{List, [], _∷_, _++_}
-use Prim.Native.Nat.{ℕ, zero, suc, _+_}
+use mathlib.Core.List.{List, [], _∷_}
+use Prim.Native.Nat.{ℕ, _+_}
 use lib.Dec.{eqb}
 use lib.ListN.{getD}
 use Rattle.basis.specs.Choice.{pick}
 use Rattle.basis.specs.Sums.{sum}
 use Rattle.basis.specs.Tables.{tab}
-use Rattle.plant.specs.Efficient.{units}
-use Rattle.record.specs.Forms.{producers, consumers}
-use Rattle.book.specs.declared.state.Enrolment.{Enrolment}
-use Rattle.book.specs.declared.state.Enrolment.the-variants.{Vacant, Enrolled}
-use Rattle.book.specs.declared.state.Unit.{Unit}
-use Rattle.book.specs.declared.state.Declaration.{Declaration}
-use Rattle.book.specs.declared.state.Declaration.the-variants.{Undeclared, Declared}
-use Rattle.book.specs.declared.state.Consumer.{Consumer}
-use Rattle.book.specs.State.{freshUnit, freshConsumer, rowOf}
-use Rattle.book.specs.Fix.{producerBy}
-use Rattle.listing.specs.declared.text.Amount.{Amount}
-use Rattle.listing.specs.declared.text.Line.{Line}
-use Rattle.listing.specs.Text.{lineOf}
-
--- a number, and a difference
-abbrev pub less : ℕ → ℕ → Amount
-less plus minus = record { plus = plus; minus = minus }
-
-abbrev pub plain : ℕ → Amount
-plain x = less x 0
-
--- a line of numbers, of which the first `count` are shown
-abbrev pub numbered : ℕ → ℕ → ℕ → ℕ → ℕ → Line
-numbered letter count a b c =
-    record { letter = letter; count = count; amounts = plain a ∷ plain b ∷ plain c ∷ [] }
-
--- f i, f (i + 1), .., n texts one after the other
-unfoldable pub joinedFrom : (ℕ → List ℕ) → ℕ → ℕ → List ℕ
-joinedFrom f i zero = []
-joinedFrom f i (suc n) = f i ++ joinedFrom f (suc i) n
-
-abbrev pub joined : (ℕ → List ℕ) → ℕ → List ℕ
-joined f n = joinedFrom f 0 n
+use Rattle.quantities.specs.Limits.{units, producers, consumers}
+use Rattle.state.specs.declared.kept.Enrolment.{Enrolment}
+use Rattle.state.specs.declared.kept.Enrolment.the-variants.{Vacant, Enrolled}
+use Rattle.state.specs.declared.kept.Unit.{Unit}
+use Rattle.state.specs.declared.kept.Declaration.{Declaration}
+use Rattle.state.specs.declared.kept.Declaration.the-variants.{Undeclared, Declared}
+use Rattle.state.specs.declared.kept.Consumer.{Consumer}
+use Rattle.state.specs.State.{freshUnit, freshConsumer, rowOf}
+use Rattle.fix.specs.Fix.{producerBy}
+use Rattle.text.specs.Text.{less, plain, lineOf, joined}
 
 -- "U: enrolled unit, offer, efficient offer."
 unfoldable pub unitLine : ℕ → Enrolment → ℕ → ℕ → List ℕ

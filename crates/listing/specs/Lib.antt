@@ -1,4 +1,3 @@
 -- Definitions of the listing, in the order of document 01.
-pub mod Text
 pub mod Letters
 pub mod Listing

@@ -6,16 +6,15 @@ use lib.Dec.{ltb, eqb}
 use lib.ListN.{length}
 use Rattle.basis.specs.Choice.{pick}
 use Rattle.basis.specs.Numbers.{written}
-use Rattle.plant.specs.Efficient.{units}
-use Rattle.record.specs.Forms.{producers, consumers}
-use Rattle.book.specs.declared.state.Stage.{Stage}
-use Rattle.book.specs.declared.state.Stage.the-variants.{Blank, Gathering, Firm, Closed}
-use Rattle.book.specs.declared.state.Book.{Book}
-use Rattle.journal.specs.declared.state.Run.{Run}
+use Rattle.quantities.specs.Limits.{units, producers, consumers}
+use Rattle.state.specs.declared.kept.Stage.{Stage}
+use Rattle.state.specs.declared.kept.Stage.the-variants.{Blank, Gathering, Firm, Closed}
+use Rattle.state.specs.declared.kept.Book.{Book}
+use Rattle.journal.specs.declared.outcome.Run.{Run}
 use Rattle.journal.specs.Run.{runOf}
 use Rattle.listing.specs.declared.Listed.{Listed}
-use Rattle.listing.specs.Text.{lineMost, lineOf}
-use Rattle.listing.specs.Letters.{plain, unitLines, ownersOf, producerLines, demandLines, settlementLines}
+use Rattle.text.specs.Text.{lineMost, lineOf, plain}
+use Rattle.listing.specs.Letters.{unitLines, ownersOf, producerLines, demandLines, settlementLines}
 
 -- U, P, D
 unfoldable pub firmLines : Book → List ℕ
@@ -26,11 +25,16 @@ firmLines b =
 abbrev pub firmMost : ℕ
 firmMost = (units + producers + consumers) * lineMost
 
--- S, and "T: charges, credits, undistributed."
+-- "T: charges, credits, undistributed."
+abbrev pub totalsLine : Book → List ℕ
+totalsLine b =
+    lineOf 84 (plain (b .closing .charged) ∷ plain (b .closing .credited) ∷ plain (b .closing .undistributed) ∷ [])
+
+-- S and T
 unfoldable pub closedLines : Book → List ℕ
 closedLines b =
-    settlementLines (b .consumers) (b .adjusted) (b .charges) (b .credits)
-    ++ lineOf 84 (plain (b .charged) ∷ plain (b .credited) ∷ plain (b .undistributed) ∷ [])
+    settlementLines (b .consumers) (b .closing .adjusted) (b .closing .charges) (b .closing .credits)
+    ++ totalsLine b
 
 abbrev pub closedMost : ℕ
 closedMost = (consumers + 1) * lineMost
@@ -42,19 +46,23 @@ stageLines Gathering b = []
 stageLines Firm b = firmLines b
 stageLines Closed b = firmLines b ++ closedLines b
 
--- "R always": "R: read, accepted, refused."
+-- "R: read, accepted, refused."
+abbrev pub countsLine : Run → List ℕ
+countsLine r = lineOf 82 (plain (r .read) ∷ plain (r .accepted) ∷ plain (r .refused) ∷ [])
+
+-- "R always"
 unfoldable pub listingOf : Run → List ℕ
 listingOf r =
     stageLines (r .book .stage) (r .book)
-    ++ lineOf 82 (plain (r .read) ∷ plain (r .accepted) ∷ plain (r .refused) ∷ [])
+    ++ countsLine r
 
 -- the most bytes of a listing: a line for each unit and each producer, two for each consumer, T and R
 abbrev pub listingMost : ℕ
 listingMost = (units + producers + 2 * consumers + 2) * lineMost
 
--- number 15 where the buffer is shorter than the text; else 0 and the length
+-- number 15 where the buffer is shorter than the text; else 0 and the bytes of the text
 abbrev pub listed : ℕ → ℕ → Listed
-listed number length = record { number = number; length = length }
+listed number size = record { number = number; size = size }
 
 unfoldable pub listedOf : List ℕ → ℕ → Listed
 listedOf text room = pick (ltb room (length text)) (listed 15 0) (listed 0 (length text))
@@ -70,12 +78,18 @@ pub record Lists (text old : List ℕ) (r : Listed) (new : List ℕ) : Type 0 wh
   pub short : length text ≤ listingMost
 
 -- "reads up to 65,536 bytes of standard input; longer input prints only `X` and a line feed"
-unfoldable pub outputOf : List ℕ → List ℕ
-outputOf input = let listing = listingOf (runOf input) in pick (ltb 65536 (length input)) (88 ∷ 10 ∷ []) listing
+abbrev pub mostInput : ℕ
+mostInput = 65536
 
--- the same for C: the listing of a journal's run; the length is told only where the text was put
-pub record ListsJournal (journal old : List ℕ) (size r : ℕ) (new : List ℕ) (told : ℕ) : Type 0 where
+abbrev pub tooLong : List ℕ
+tooLong = 88 ∷ 10 ∷ []
+
+unfoldable pub outputOf : List ℕ → List ℕ
+outputOf input = let listing = listingOf (runOf input) in pick (ltb mostInput (length input)) tooLong listing
+
+-- the same for C: the listing of a journal's run; its bytes are told only where the text was put
+pub record ListsJournal (journal old : List ℕ) (before r : ℕ) (new : List ℕ) (told : ℕ) : Type 0 where
   pub answer : r ≡ listedOf (listingOf (runOf journal)) (length old) .number
   pub bytes : new ≡ listedIn (listingOf (runOf journal)) old
-  pub length : told ≡ pick (eqb r 0) (lib.ListN.length (listingOf (runOf journal))) size
-  pub short : lib.ListN.length (listingOf (runOf journal)) ≤ listingMost
+  pub size : told ≡ pick (eqb r 0) (length (listingOf (runOf journal))) before
+  pub short : length (listingOf (runOf journal)) ≤ listingMost

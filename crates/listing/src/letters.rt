@@ -2,41 +2,24 @@
 ghost use mathlib.Core.Path.{_≡_};
 ghost use Prim.Native.Nat.{_+_, _*_, _≤_};
 ghost use lib.ListN.{length};
-ghost use Rattle.basis.specs.Sums.{sum};
-ghost use Rattle.plant.specs.Efficient.{units as unitCount};
-ghost use Rattle.record.specs.Forms.{producers as producerCount, consumers as consumerCount};
-ghost use Rattle.book.specs.Fix.{producerBy};
-ghost use Rattle.listing.specs.Text.{Puts, lineMost};
-ghost use Rattle.listing.specs.Letters.{plain, numbered, unitLine, unitLines, ownersOf, owns, producerLine, producerLines, demandLine, demandLines, settlementLine, settlementLines};
-use crate::text::Amount;
-use crate::text::Line;
-use crate::text::put_line;
-use book::CELLS;
-use book::CONSUMERS;
-use book::Consumer;
-use book::Declaration;
-use book::Enrolment;
-use book::PRODUCERS;
-use book::Unit;
-use plant::UNITS;
-
-// A number, which has no sign.
-pub(crate) fn unsigned(x: u64) -> Amount
-    ensures { λ r. ⌜ r ≡ plain x ⌝ }
-{
-    Amount { plus: x, minus: 0 }
-}
-
-// A line of numbers, of which the first `count` are shown.
-pub(crate) fn numbers(letter: u8, count: usize, a: u64, b: u64, c: u64) -> Line
-    ensures { λ r. ⌜ r ≡ numbered letter count a b c ⌝ }
-{
-    Line {
-        letter,
-        count,
-        amounts: [unsigned(a), unsigned(b), unsigned(c)],
-    }
-}
+ghost use Rattle.quantities.specs.Limits.{units as unitCount, producers as producerCount, consumers as consumerCount};
+ghost use Rattle.fix.specs.Fix.{producerBy};
+ghost use Rattle.text.specs.Text.{Puts, lineMost};
+ghost use Rattle.listing.specs.Letters.{unitLine, unitLines, ownersOf, owns, producerLine, producerLines, demandLine, demandLines, settlementLine, settlementLines};
+use decision::producer_balance;
+use quantities::CONSUMERS;
+use quantities::PRODUCERS;
+use quantities::UNITS;
+use state::CELLS;
+use state::Consumer;
+use state::Declaration;
+use state::Enrolment;
+use state::Unit;
+use text::Amount;
+use text::Line;
+use text::numbers;
+use text::put_line;
+use text::unsigned;
 
 pub(crate) fn put_unit(
     out: &mut [u8],
@@ -118,20 +101,6 @@ pub(crate) fn has_unit(owners: &[u32], producer: u32) -> bool
     false
 }
 
-// The sum of a producer's balances.
-pub(crate) fn total_of(row: &[u32]) -> u64
-    requires { ⌜ length (now row) ≤ consumerCount ⌝ }
-    ensures { λ r. ⌜ r ≡ sum (now (row .entry)) ⌝ }
-{
-    let mut total: u64 = 0;
-    let mut i = 0;
-    while i < row.len() {
-        total += row[i] as u64;
-        i += 1;
-    }
-    total
-}
-
 pub(crate) fn put_producer(
     out: &mut [u8],
     at: usize,
@@ -166,10 +135,9 @@ pub(crate) fn put_producers(
     let mut place = at;
     let mut i = 0;
     while i < PRODUCERS {
-        let owner = has_unit(&owners, i as u32 + 1);
-        let from = i * CONSUMERS;
-        let to = from + CONSUMERS;
-        let balance = total_of(&balances[from..to]);
+        let producer = i as u32 + 1;
+        let owner = has_unit(&owners, producer);
+        let balance = producer_balance(&balances, producer);
         place = put_producer(out, place, i + 1, owner, limits[i], balance);
         i += 1;
     }

@@ -1,20 +1,18 @@
 // The listing of a run, letter after letter.
-ghost use mathlib.Core.Path.{_≡_};
 ghost use Prim.Native.Nat.{_+_, _≤_};
 ghost use lib.ListN.{length};
-ghost use Rattle.basis.specs.Numbers.{written};
-ghost use Rattle.listing.specs.Text.{Puts};
+ghost use Rattle.text.specs.Text.{Puts};
 ghost use Rattle.listing.specs.Listing.{firmLines, firmMost, closedLines, closedMost, stageLines, listingOf, listingMost};
-use crate::letters::numbers;
 use crate::letters::owners_of;
 use crate::letters::put_demands;
 use crate::letters::put_producers;
 use crate::letters::put_settlements;
 use crate::letters::put_units;
-use crate::text::put_line;
-use book::Book;
-use book::Stage;
 use journal::Run;
+use state::Book;
+use state::Stage;
+use text::numbers;
+use text::put_line;
 
 // U, P and D.
 pub(crate) fn put_firm(out: &mut [u8], at: usize, book: Book) -> usize
@@ -39,14 +37,21 @@ pub(crate) fn put_closed(out: &mut [u8], at: usize, book: Book) -> usize
     ensures { λ r. ⌜ Puts closedMost (closedLines book) (now (out .entry)) at r (now (out .exit)) ⌝ }
 {
     let consumers = book.consumers;
-    let adjusted = book.adjusted;
-    let charges = book.charges;
-    let credits = book.credits;
+    let closing = book.closing;
+    let adjusted = closing.adjusted;
+    let charges = closing.charges;
+    let credits = closing.credits;
     let totals = put_settlements(out, at, consumers, adjusted, charges, credits);
     put_line(
         out,
         totals,
-        numbers(b'T', 3, book.charged, book.credited, book.undistributed),
+        numbers(
+            b'T',
+            3,
+            closing.charged,
+            closing.credited,
+            closing.undistributed,
+        ),
     )
 }
 
@@ -85,16 +90,4 @@ pub(crate) fn put_run(out: &mut [u8], run: Run) -> usize
             run.refused as u64,
         ),
     )
-}
-
-// The text over the front of out.
-pub(crate) fn put_text(out: &mut [u8], text: &[u8])
-    requires { ⌜ length (now text) ≤ length (now out) ⌝ }
-    ensures { λ _. ⌜ now (out .exit) ≡ written (now (out .entry)) 0 (now (text .entry)) ⌝ }
-{
-    let mut i = 0;
-    while i < text.len() {
-        out[i] = text[i];
-        i += 1;
-    }
 }

@@ -8,16 +8,17 @@ use borrow.Author.Tests.{leb-true, eqb-false}
 use lib.Dec.{leb, eqb}
 use Rattle.basis.specs.Choice.{pick}
 use Rattle.basis.proofs.Choice.{both-true}
-use Rattle.plant.specs.declared.quantity.Kw.{Kw}
-use Rattle.plant.specs.declared.component.Availability.{Availability}
-use Rattle.plant.specs.declared.component.Availability.the-variants.{Unknown, Known}
-use Rattle.plant.specs.declared.component.Minutes.{Minutes}
-use Rattle.plant.specs.Ranges.{greatestMinutes, minutesInRange}
+use Rattle.power.specs.declared.quantity.Kw.{Kw}
+use Rattle.power.specs.declared.component.Availability.{Availability}
+use Rattle.power.specs.declared.component.Availability.the-variants.{Unknown, Known}
+use Rattle.power.specs.declared.component.Minutes.{Minutes}
+use Rattle.quantities.specs.Limits.{greatestMinutes}
+use Rattle.power.specs.Ranges.{minutesInRange}
 use Rattle.plant.specs.Availability.{readyMinutes, wholeMinutes, minutesFit, availabilityNumber, timesC}
-use Rattle.plant.proofs.Quotients.{part-at-most}
+use Rattle.plant.specs.Promises.{ReadyAtMostWhole}
+use Rattle.power.proofs.Quotients.{part-at-most}
 
--- ready minutes never exceed whole minutes
-pub ready-at-most-whole : (m : Minutes) → readyMinutes m ≤ wholeMinutes m
+pub ready-at-most-whole : ReadyAtMostWhole
 ready-at-most-whole m = omega arith
 
 -- a power times ready minutes fits 64 bits

@@ -7,13 +7,15 @@ use native.Mathlib.Nat.{min-le-left, min-le-right, le-trans}
 use native.Mathlib.Omega.{arith}
 use lib.ListN.{getD, List·getD-eq-default}
 use Rattle.basis.specs.Choice.{pick}
-use Rattle.plant.specs.declared.quantity.Kw.{Kw}
-use Rattle.plant.specs.declared.component.Component.{Component}
+use Rattle.quantities.specs.Limits.{greatestKind}
+use Rattle.power.specs.declared.quantity.Kw.{Kw}
+use Rattle.power.specs.declared.component.Component.{Component}
 use Rattle.plant.specs.declared.offer.Hours.{Hours}
 use Rattle.plant.specs.declared.offer.Plant.{Plant}
-use Rattle.plant.specs.Quantity.{kw, least, overHours}
-use Rattle.plant.specs.Power.{maximumPower}
+use Rattle.power.specs.Quantity.{kw, least, overHours}
+use Rattle.power.specs.Power.{maximumPower}
 use Rattle.plant.specs.Offer.{availablePower, offersByKind, firmOffer, complete}
+use Rattle.plant.specs.Promises.{OfferAtMostMaximum}
 use Rattle.plant.proofs.Coefficient.{times-c-at-most}
 
 module _ (p : Plant) (h : Hours) (set generator storage : Component) where
@@ -23,11 +25,11 @@ module _ (p : Plant) (h : Hours) (set generator storage : Component) where
   offer-of-kind k e = ap (λ n. getD (offersByKind p h set generator storage) n (kw 0)) (sym e)
 
   -- there is none in front of kind 1 and behind kind 8
-  pub offer-of-no-kind : (0 < p .kind → 8 < p .kind) → kw 0 ≡ firmOffer p h set generator storage
+  pub offer-of-no-kind : (0 < p .kind → greatestKind < p .kind) → kw 0 ≡ firmOffer p h set generator storage
   unfolding firmOffer
   offer-of-no-kind f = go (p .kind) f
     where
-      go : (k : ℕ) → (0 < k → 8 < k) → kw 0 ≡ getD (offersByKind p h set generator storage) k (kw 0)
+      go : (k : ℕ) → (0 < k → greatestKind < k) → kw 0 ≡ getD (offersByKind p h set generator storage) k (kw 0)
       go zero f = refl
       go (suc k) f = sym (List·getD-eq-default (offersByKind p h set generator storage) (kw 0) (f (omega arith)))
 
@@ -53,7 +55,7 @@ available x = times-c-at-most (maximumPower x) (x .availability)
 lesser : (a b most : Kw) → a .0 ≤ most .0 → least a b .0 ≤ most .0
 lesser a b most h = le-trans (min-le-left (a .0) (b .0)) h
 
-pub offer-at-most-maximum : (p : Plant) (h : Hours) (set generator storage : Component) → firmOffer p h set generator storage .0 ≤ maximumPower set .0
+pub offer-at-most-maximum : OfferAtMostMaximum
 unfolding firmOffer
 offer-at-most-maximum p h set generator storage =
     at-most most (kw 0) (offersByKind p h set generator storage)

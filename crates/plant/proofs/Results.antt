@@ -7,22 +7,23 @@ use native.Mathlib.Nat.{le-refl, le-trans, min-le-left, min-le-right, mul-le-mul
 use borrow.Author.Tests.{eqb-true}
 use lib.Dec.{eqb}
 use Rattle.basis.specs.Choice.{pick}
-use Rattle.plant.specs.declared.quantity.Kw.{Kw}
-use Rattle.plant.specs.declared.quantity.Kwh.{Kwh}
-use Rattle.plant.specs.declared.component.Measured.{Measured}
-use Rattle.plant.specs.declared.component.Measured.the-variants.{Nothing, Power}
-use Rattle.plant.specs.declared.component.Availability.the-variants.{Known}
-use Rattle.plant.specs.declared.component.Minutes.{Minutes}
-use Rattle.plant.specs.declared.component.Cap.{Cap}
-use Rattle.plant.specs.declared.component.Cap.the-variants.{Free, At}
-use Rattle.plant.specs.declared.component.Component.{Component}
-use Rattle.plant.specs.Ranges.{greatestPower, greatestReading}
-use Rattle.plant.specs.Quantity.{quartersOfHour, overQuarters}
-use Rattle.plant.specs.Power.{powerOf, maximumPower, reaches, testNumber, energyOf, outsideTrip, ownTrip, measuredOf, measuredBy, capped, afterTest, testOf}
+use Rattle.power.specs.declared.quantity.Kw.{Kw}
+use Rattle.power.specs.declared.quantity.Kwh.{Kwh}
+use Rattle.power.specs.declared.component.Measured.{Measured}
+use Rattle.power.specs.declared.component.Measured.the-variants.{Nothing, Power}
+use Rattle.power.specs.declared.component.Availability.the-variants.{Known}
+use Rattle.power.specs.declared.component.Minutes.{Minutes}
+use Rattle.power.specs.declared.component.Cap.{Cap}
+use Rattle.power.specs.declared.component.Cap.the-variants.{Free, At}
+use Rattle.power.specs.declared.component.Component.{Component}
+use Rattle.quantities.specs.Limits.{greatestPower, greatestReading}
+use Rattle.power.specs.Quantity.{quartersOfHour, overQuarters}
+use Rattle.power.specs.Power.{powerOf, maximumPower, reaches, testNumber, energyOf, outsideTrip, ownTrip, measuredOf, measuredBy, capped, afterTest, testOf}
 use Rattle.plant.specs.Availability.{availabilityNumber, availabilityOf}
-use Rattle.plant.proofs.Quotients.{over-quarters-at-most}
-use Rattle.plant.proofs.Readings.{energy-at-most}
-use Rattle.plant.proofs.Accepted.{Accepted, accepted-test, count-within-time}
+use Rattle.plant.specs.Promises.{TestWithinCap, TestWithinGreatest}
+use Rattle.power.proofs.Quotients.{over-quarters-at-most}
+use Rattle.power.proofs.Readings.{energy-at-most}
+use Rattle.power.proofs.Accepted.{AcceptedTest, accepted-test, count-within-time}
 
 -- a cap only lowers, and is kept
 pub capped-at-most : (cap : Cap) (p : Kw) → capped cap p .0 ≤ p .0
@@ -37,7 +38,7 @@ choice-within : (most : ℕ) (t : Bool) (a b : Measured) → powerOf a .0 ≤ mo
 choice-within most true a b h g = h
 choice-within most false a b h g = g
 
-module _ (trip : Bool) (ending tc count : ℕ) (bytes : List ℕ) (k : Accepted ending tc count bytes) where
+module _ (trip : Bool) (ending tc count : ℕ) (bytes : List ℕ) (k : AcceptedTest ending tc count bytes) where
   -- over no less quarters than there are readings
   over : (quarters : ℕ) → count ≤ quarters → overQuarters (energyOf count bytes) quarters .0 ≤ quartersOfHour * greatestReading
   over quarters h =
@@ -64,7 +65,7 @@ after-test-within most cap ending x Nothing old new = old
 after-test-within most cap ending x (Power p) old new = new
 
 module _ (x : Component) (cap : Cap) (ending tc count : ℕ) (bytes : List ℕ) where
-  pub test-within : (most : ℕ) → maximumPower x .0 ≤ most → (Accepted ending tc count bytes → capped cap (powerOf (measuredBy x ending tc count bytes)) .0 ≤ most) → maximumPower (testOf x cap ending tc count bytes .component) .0 ≤ most
+  pub test-within : (most : ℕ) → maximumPower x .0 ≤ most → (AcceptedTest ending tc count bytes → capped cap (powerOf (measuredBy x ending tc count bytes)) .0 ≤ most) → maximumPower (testOf x cap ending tc count bytes .component) .0 ≤ most
   unfolding testOf
   test-within most old new = go (eqb (testNumber ending tc count bytes) 0) refl
     where
@@ -77,19 +78,17 @@ module _ (x : Component) (cap : Cap) (ending tc count : ℕ) (bytes : List ℕ) 
           (new (accepted-test ending tc count bytes (eqb-true (testNumber ending tc count bytes) 0 e)))
       go false e = old
 
-  -- a maximum power is at most 3,000,000 kW
-  pub test-within-greatest : maximumPower x .0 ≤ greatestPower → maximumPower (testOf x cap ending tc count bytes .component) .0 ≤ greatestPower
-  test-within-greatest old =
-      test-within greatestPower old
-      (λ k.
-      le-trans (capped-at-most cap (powerOf (measuredBy x ending tc count bytes)))
-      (measured-at-most (x .«void_trip») ending tc count bytes k))
+pub test-within-greatest : TestWithinGreatest
+test-within-greatest x cap ending tc count bytes old =
+    test-within x cap ending tc count bytes greatestPower old
+    (λ k.
+    le-trans (capped-at-most cap (powerOf (measuredBy x ending tc count bytes)))
+    (measured-at-most (x .«void_trip») ending tc count bytes k))
 
--- and at most the cap where one is given
-pub test-within-cap : (x : Component) (most : Kw) (ending tc count : ℕ) (bytes : List ℕ) → maximumPower x .0 ≤ most .0 → maximumPower (testOf x (At most) ending tc count bytes .component) .0 ≤ most .0
-test-within-cap x most ending tc count bytes old =
-    test-within x (At most) ending tc count bytes (most .0) old
-    (λ k. capped-at-cap most (powerOf (measuredBy x ending tc count bytes)))
+pub test-within-cap : TestWithinCap
+test-within-cap x pic ending tc count bytes old =
+    test-within x (At pic) ending tc count bytes (pic .0) old
+    (λ k. capped-at-cap pic (powerOf (measuredBy x ending tc count bytes)))
 
 -- an availability changes no maximum power
 pub availability-keeps-maximum : (x : Component) (m : Minutes) → maximumPower (availabilityOf x m .component) ≡ maximumPower x

@@ -9,7 +9,9 @@ use lib.ListN.{length, getD}
 use Rattle.basis.specs.Choice.{pick}
 use Rattle.basis.proofs.Sums.{sumUp-more}
 use Rattle.basis.proofs.Tables.{length-tab, getD-tab}
-use Rattle.plant.specs.Efficient.{flagged, counted, yearSum, efficientOffer, efficientOffers}
+use Rattle.quantities.specs.Flags.{flagged, forcedGeneration}
+use Rattle.plant.specs.Efficient.{counted, yearSum, efficientOffer, efficientOffers}
+use Rattle.plant.specs.Promises.{EfficientOrNone}
 
 -- one unit more in a year's sum
 pub year-sum-more : (n year : ℕ) (flags offers : List ℕ) → yearSum (n + 1) year flags offers ≡ yearSum n year flags offers + counted year (getD flags n 0) (getD offers n 0)
@@ -24,12 +26,11 @@ below : (t : Bool) (x : ℕ) → pick t x 0 ≤ x
 below true x = le-refl x
 below false x = zero-le
 
--- an efficient offer is the offer or 0
-pub efficient-or-none : (year flags offer : ℕ) → (efficientOffer year flags offer ≡ offer) ⊎ (efficientOffer year flags offer ≡ 0)
-efficient-or-none year flags offer = either (pick (flagged year flags) true (flagged 4 flags)) offer
+pub efficient-or-none : EfficientOrNone
+efficient-or-none year flags offer = either (pick (flagged year flags) true (flagged forcedGeneration flags)) offer
 
 pub efficient-at-most-offer : (year flags offer : ℕ) → efficientOffer year flags offer ≤ offer
-efficient-at-most-offer year flags offer = below (pick (flagged year flags) true (flagged 4 flags)) offer
+efficient-at-most-offer year flags offer = below (pick (flagged year flags) true (flagged forcedGeneration flags)) offer
 
 module _ (n year : ℕ) (flags offers : List ℕ) where
   pub length-efficient : length (efficientOffers n year flags offers) ≡ n

@@ -3,15 +3,16 @@ use mathlib.Core.Bool.{Bool, false}
 use Prim.Native.Nat.{ℕ, _+_, _-_, _*_, _/_}
 use lib.Dec.{leb, eqb}
 use Rattle.basis.specs.Choice.{pick}
-use Rattle.plant.specs.declared.quantity.Kw.{Kw}
-use Rattle.plant.specs.declared.component.Availability.{Availability}
-use Rattle.plant.specs.declared.component.Availability.the-variants.{Unknown, Known}
-use Rattle.plant.specs.declared.component.Minutes.{Minutes}
-use Rattle.plant.specs.declared.component.Component.{Component}
-use Rattle.plant.specs.declared.component.Answer.{Answer}
-use Rattle.plant.specs.Quantity.{kw}
-use Rattle.plant.specs.Power.{answerOf}
-use Rattle.plant.specs.Ranges.{greatestMinutes, minutesInRange}
+use Rattle.power.specs.declared.quantity.Kw.{Kw}
+use Rattle.power.specs.declared.component.Availability.{Availability}
+use Rattle.power.specs.declared.component.Availability.the-variants.{Unknown, Known}
+use Rattle.power.specs.declared.component.Minutes.{Minutes}
+use Rattle.power.specs.declared.component.Component.{Component}
+use Rattle.power.specs.declared.component.Answer.{Answer}
+use Rattle.power.specs.Quantity.{kw}
+use Rattle.power.specs.Power.{answerOf}
+use Rattle.quantities.specs.Limits.{greatestMinutes}
+use Rattle.power.specs.Ranges.{minutesInRange}
 
 abbrev pub minutes : ℕ → ℕ → ℕ → ℕ → Minutes
 minutes hd hmp hif hed = record { hd = hd; hmp = hmp; hif = hif; hed = hed }

@@ -7,15 +7,8 @@ use lib.ListN.{getD}
 use Rattle.basis.specs.Choice.{pick}
 use Rattle.basis.specs.Sums.{sumUp}
 use Rattle.basis.specs.Tables.{tab}
+use Rattle.quantities.specs.Flags.{flagged, firstYear, secondYear, forcedGeneration}
 use Rattle.plant.specs.declared.efficient.Efficient.{Efficient}
-
--- units are 1 to 48
-abbrev pub units : ℕ
-units = 48
-
--- the flag stands in the flags: 1 and 2 used in the first and second simulated year, 4 forced generation persists
-abbrev pub flagged : ℕ → ℕ → Bool
-flagged flag flags = eqb (flags / flag % 2) 1
 
 -- what a unit adds to a year's sum: its offer, if used in that year, whose flag is its number
 abbrev pub counted : ℕ → ℕ → ℕ → ℕ
@@ -27,11 +20,11 @@ yearSum n year flags offers = sumUp (λ i. counted year (getD flags i 0) (getD o
 
 -- the year of the greater sum, of a tie the first
 abbrev pub chosenYear : ℕ → List ℕ → List ℕ → ℕ
-chosenYear n flags offers = pick (leb (yearSum n 2 flags offers) (yearSum n 1 flags offers)) 1 2
+chosenYear n flags offers = pick (leb (yearSum n secondYear flags offers) (yearSum n firstYear flags offers)) firstYear secondYear
 
 -- its offer, if used in that year or flagged 4, else 0
 abbrev pub efficientOffer : ℕ → ℕ → ℕ → ℕ
-efficientOffer year flags offer = pick (pick (flagged year flags) true (flagged 4 flags)) offer 0
+efficientOffer year flags offer = pick (pick (flagged year flags) true (flagged forcedGeneration flags)) offer 0
 
 -- the efficient offers of n units, once the year is chosen
 unfoldable pub efficientOffers : ℕ → ℕ → List ℕ → List ℕ → List ℕ

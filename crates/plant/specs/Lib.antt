@@ -1,7 +1,5 @@
--- Definitions of Level Plant, in the order of document 01.
-pub mod Ranges
-pub mod Quantity
-pub mod Power
+-- Availability and offers, in the order of document 01, and what is promised of Level Plant.
 pub mod Availability
 pub mod Offer
 pub mod Efficient
+pub mod Promises

@@ -4,14 +4,14 @@ use mathlib.Core.List.{List, [], _∷_}
 use Prim.Native.Nat.{ℕ, min, _+_}
 use lib.ListN.{getD}
 use Rattle.basis.specs.Choice.{pick}
-use Rattle.plant.specs.declared.quantity.Kw.{Kw}
-use Rattle.plant.specs.declared.component.Measured.{Measured}
-use Rattle.plant.specs.declared.component.Measured.the-variants.{Nothing, Power}
-use Rattle.plant.specs.declared.component.Component.{Component}
+use Rattle.power.specs.declared.quantity.Kw.{Kw}
+use Rattle.power.specs.declared.component.Measured.{Measured}
+use Rattle.power.specs.declared.component.Measured.the-variants.{Nothing, Power}
+use Rattle.power.specs.declared.component.Component.{Component}
 use Rattle.plant.specs.declared.offer.Hours.{Hours}
 use Rattle.plant.specs.declared.offer.Plant.{Plant}
-use Rattle.plant.specs.Quantity.{kw, least, overHours}
-use Rattle.plant.specs.Power.{maximumPower}
+use Rattle.power.specs.Quantity.{kw, least, overHours}
+use Rattle.power.specs.Power.{maximumPower}
 use Rattle.plant.specs.Availability.{held, timesC}
 
 -- PP·c of a component
@@ -19,9 +19,9 @@ abbrev pub availablePower : Component → Kw
 availablePower x = timesC (maximumPower x) (x .availability)
 
 -- a result is held
-abbrev pub tested : Measured → Bool
-tested Nothing = false
-tested (Power p) = true
+abbrev pub hasResult : Measured → Bool
+hasResult Nothing = false
+hasResult (Power p) = true
 
 -- kind 1, thermal, with a supply report: PP·c
 abbrev pub thermal : Plant → Component → Kw
@@ -50,9 +50,9 @@ stored p hours x = least (least (availablePower x) (overHours (p .e2) hours)) (o
 -- kind 8: all three results, and the availabilities of generator and storage
 abbrev pub complete : Component → Component → Component → Bool
 complete set generator storage =
-    pick (tested (set .result))
-    (pick (tested (generator .result))
-    (pick (tested (storage .result))
+    pick (hasResult (set .result))
+    (pick (hasResult (generator .result))
+    (pick (hasResult (storage .result))
     (pick (held (generator .availability)) (held (storage .availability)) false)
     false)
     false)

@@ -1,18 +1,18 @@
 // The minutes of an availability, and power times c.
 ghost use mathlib.Core.Path.{_≡_};
 ghost use Prim.Native.Nat.{_+_, _*_, _/_, _≤_, _<_};
-ghost use Rattle.plant.specs.Ranges.{greatestMinutes};
-ghost use Rattle.plant.specs.Quantity.{kw};
+ghost use Rattle.quantities.specs.Limits.{greatestMinutes};
+ghost use Rattle.power.specs.Quantity.{kw};
 ghost use Rattle.plant.specs.Availability.{minutes, readyMinutes, wholeMinutes, minutesFit, availabilityNumber, availabilityOf, held, timesC};
 ghost use Rattle.plant.specs.Offer.{availablePower};
-use crate::component::Answer;
-use crate::component::Availability;
-use crate::component::Component;
-use crate::component::Minutes;
-use crate::power::maximum_power;
-use crate::quantity::Kw;
-use crate::ranges::GREATEST_MINUTES;
-use crate::ranges::minutes_in_range;
+use power::Answer;
+use power::Availability;
+use power::Component;
+use power::Kw;
+use power::Minutes;
+use power::maximum_power;
+use power::minutes_in_range;
+use quantities::GREATEST_MINUTES;
 
 // The minutes have a coefficient: not none or too many in all, and no more degraded than there are.
 fn minutes_fit(m: Minutes) -> bool
@@ -66,7 +66,7 @@ pub fn set_availability(old: Component, hd: u32, hmp: u32, hif: u32, hed: u32) -
 }
 
 // An availability is held.
-pub fn is_held(availability: Availability) -> bool
+pub(crate) fn is_held(availability: Availability) -> bool
     ensures { λ r. ⌜ r ≡ held availability ⌝ }
 {
     match availability {
@@ -88,7 +88,7 @@ fn times_minutes(power: Kw, m: Minutes) -> Kw
 }
 
 // Power times c, 0 without an availability.
-pub fn times_c(power: Kw, availability: Availability) -> Kw
+pub(crate) fn times_c(power: Kw, availability: Availability) -> Kw
     ensures { λ r. ⌜ r ≡ timesC power availability ⌝ }
 {
     match availability {

@@ -1,24 +1,17 @@
 // The efficient offers of all units.
 ghost use mathlib.Core.Path.{_≡_};
-ghost use Rattle.plant.specs.Efficient.{units, flagged, counted, efficientOffer, yearSum, chosenYear, efficientOffers, efficientOf};
-
-// The number of units.
-pub const UNITS: usize = 48;
+ghost use Rattle.quantities.specs.Limits.{units};
+ghost use Rattle.plant.specs.Efficient.{counted, efficientOffer, yearSum, chosenYear, efficientOffers, efficientOf};
+use quantities::FIRST_YEAR;
+use quantities::FORCED_GENERATION;
+use quantities::SECOND_YEAR;
+use quantities::UNITS;
+use quantities::is_flagged;
 
 // The simulated year that was chosen, 1 or 2, and each unit's efficient offer in kW.
 pub struct Efficient {
     pub year: u32,
     pub offers: [u32; UNITS],
-}
-
-// The flag stands in the flags: 1 and 2 used in the first and second year, 4 forced generation persists.
-fn is_flagged(flag: u32, flags: u32) -> bool
-    ensures { λ r. ⌜ r ≡ flagged flag flags ⌝ }
-{
-    if flag == 0 {
-        return false;
-    }
-    flags / flag % 2 == 1
 }
 
 // What a unit adds to a year's sum.
@@ -45,10 +38,10 @@ fn year_sum(year: u32, flags: [u32; UNITS], offers: [u32; UNITS]) -> u64
 fn chosen_year(flags: [u32; UNITS], offers: [u32; UNITS]) -> u32
     ensures { λ r. ⌜ r ≡ chosenYear units flags offers ⌝ }
 {
-    if year_sum(1, flags, offers) < year_sum(2, flags, offers) {
-        return 2;
+    if year_sum(FIRST_YEAR, flags, offers) < year_sum(SECOND_YEAR, flags, offers) {
+        return SECOND_YEAR;
     }
-    1
+    FIRST_YEAR
 }
 
 // A unit's offer, if it is used in the year or forced generation persists, else 0.
@@ -58,7 +51,7 @@ fn efficient_offer(year: u32, flags: u32, offer: u32) -> u32
     if is_flagged(year, flags) {
         return offer;
     }
-    if is_flagged(4, flags) {
+    if is_flagged(FORCED_GENERATION, flags) {
         return offer;
     }
     0

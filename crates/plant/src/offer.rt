@@ -1,16 +1,16 @@
 // The firm offer of the eight kinds of plant.
 ghost use mathlib.Core.Path.{_≡_};
-ghost use Rattle.plant.specs.Offer.{tested, thermal, renewable, limited, regulated, stored, complete, together, withStorage, firmOffer};
+ghost use Rattle.plant.specs.Offer.{hasResult, thermal, renewable, limited, regulated, stored, complete, together, withStorage, firmOffer};
 use crate::availability::available_power;
 use crate::availability::is_held;
 use crate::availability::times_c;
-use crate::component::Component;
-use crate::component::Measured;
-use crate::power::maximum_power;
-use crate::quantity::Kw;
-use crate::quantity::Kwh;
-use crate::quantity::least;
-use crate::quantity::over_hours;
+use power::Component;
+use power::Kw;
+use power::Kwh;
+use power::Measured;
+use power::least;
+use power::maximum_power;
+use power::over_hours;
 
 // The hours of the stage of greatest thermal requirement, its hours of maximum demand, and those per day.
 pub struct Hours {
@@ -86,8 +86,8 @@ fn stored(plant: Plant, hours: u32, x: Component) -> Kw
 }
 
 // A result is held.
-fn is_tested(x: Component) -> bool
-    ensures { λ r. ⌜ r ≡ tested (x .result) ⌝ }
+fn has_result(x: Component) -> bool
+    ensures { λ r. ⌜ r ≡ hasResult (x .result) ⌝ }
 {
     let result = x.result;
     match result {
@@ -100,13 +100,13 @@ fn is_tested(x: Component) -> bool
 fn is_complete(set: Component, generator: Component, storage: Component) -> bool
     ensures { λ r. ⌜ r ≡ complete set generator storage ⌝ }
 {
-    if !is_tested(set) {
+    if !has_result(set) {
         return false;
     }
-    if !is_tested(generator) {
+    if !has_result(generator) {
         return false;
     }
-    if !is_tested(storage) {
+    if !has_result(storage) {
         return false;
     }
     let generating = generator.availability;

@@ -23,7 +23,7 @@ use plant::Kw;
 use plant::Kwh;
 use plant::Measured;
 use plant::Plant;
-use plant::UNITS;
+use quantities::UNITS;
 
 // The readings of a test line: the place of the first, the most of them, and their bytes.
 const FIRST: usize = 6;

@@ -6,13 +6,13 @@ use Prim.Native.Nat.{ℕ, _*_, _≤_}
 use native.Mathlib.Omega.{arith}
 use borrow.Author.Tests.{eqb-true}
 use lib.Dec.{leb, eqb}
-use lib.ListN.{length, take}
-use lib.Seq.{take-all}
+use lib.ListN.{length}
+use lib.Seq.{length-take-le}
 use Rattle.basis.specs.Choice.{pick, between}
 use Rattle.basis.specs.Sums.{allAtMost}
 use Rattle.basis.proofs.Choice.{both-true}
-use Rattle.plant.specs.Efficient.{units}
-use Rattle.plant.specs.Ranges.{greatestReading, greatestEnding, leastTime, greatestTime, greatestCount, readingsOf, testInRange, greatestMinutes, minutesInRange}
+use Rattle.quantities.specs.Limits.{units, greatestReading, greatestEnding, leastTime, greatestTime, greatestCount, greatestMinutes}
+use Rattle.power.specs.Ranges.{readingsOf, testInRange, minutesInRange}
 use Rattle.record.specs.Calls.{partsOf, readingsSize}
 use Rattle.record.specs.Fields.{withinAll}
 use Rattle.record.specs.Forms.{formOf}
@@ -40,37 +40,20 @@ test-length ending tc count rs e =
     let c = both-true (leb count greatestCount) _ (b .1) in
     eqb-true (length rs) (4 * count) (both-true (eqb (length rs) (4 * count)) d (c .1) .0)
 
--- the readings that a call in range carries are as long as its record says, and lent with it
-pub record Lent (c : Call) (rs : List ℕ) : Type 0 where
-  pub taken : take (readingsSize c) rs ≡ carried c rs
-  pub size : length (carried c rs) ≡ readingsSize c
-  pub there : readingsSize c ≤ length rs
+-- the readings of a call in range are lent with it
+pub readings-lent : (c : Call) (rs : List ℕ) → restInRange c rs ≡ true → readingsSize c ≤ length rs
+unfolding readingsSize formOf partsOf restInRange
+readings-lent (Year nhrm nhmd ndhmd) rs e = omega arith
+readings-lent (Unit unit producer kind flags pic ppr e1 e2 cap) rs e = omega arith
+readings-lent (Test unit component ending tc count) rs e = omega (arith, test-length ending tc count rs e)
+readings-lent (Availability unit component hd hmp hif hed) rs e = omega arith
+readings-lent (Declare consumer d a) rs e = omega arith
+readings-lent (Fix dmp) rs e = omega arith
+readings-lent (Commit producer consumer q) rs e = omega arith
+readings-lent (Release producer consumer q) rs e = omega arith
+readings-lent (Meter consumer dreal) rs e = omega arith
+readings-lent (Close p) rs e = omega arith
 
-pub lent : (c : Call) (rs : List ℕ) → restInRange c rs ≡ true → Lent c rs
-unfolding readingsSize carried restInRange
-lent (Year nhrm nhmd ndhmd) rs e = record { taken = refl; size = refl; there = omega arith }
-lent (Unit unit producer kind flags pic ppr e1 e2 cap) rs e = record { taken = refl; size = refl; there = omega arith }
-lent (Test unit component ending tc count) rs e =
-    let h = test-length ending tc count rs e in
-    record { taken = take-all (4 * count) rs (omega arith); size = h; there = omega arith }
-lent (Availability unit component hd hmp hif hed) rs e = record { taken = refl; size = refl; there = omega arith }
-lent (Declare consumer d a) rs e = record { taken = refl; size = refl; there = omega arith }
-lent (Fix dmp) rs e = record { taken = refl; size = refl; there = omega arith }
-lent (Commit producer consumer q) rs e = record { taken = refl; size = refl; there = omega arith }
-lent (Release producer consumer q) rs e = record { taken = refl; size = refl; there = omega arith }
-lent (Meter consumer dreal) rs e = record { taken = refl; size = refl; there = omega arith }
-lent (Close p) rs e = record { taken = refl; size = refl; there = omega arith }
-
--- the minutes of an availability in range
-pub minutes-ranged : (unit component hd hmp hif hed : ℕ) (rs : List ℕ) → callNumber (Availability unit component hd hmp hif hed) rs ≡ 0 → minutesInRange hd hmp hif hed ≡ true
-unfolding formOf partsOf withinAll
-minutes-ranged unit component hd hmp hif hed rs e =
-    let m : ℕ = greatestMinutes in
-    let a = both-true (between 1 units unit) _ (in-range (Availability unit component hd hmp hif hed) rs e .0) in
-    let b = both-true (between 0 2 component) _ (a .1) in
-    let c = both-true (between 0 m hd) _ (b .1) in
-    let d = both-true (between 0 m hmp) _ (c .1) in
-    let f = both-true (between 0 m hif) _ (d .1) in
-    let g = both-true (between 0 m hed) _ (f .1) in
-    let top : (x : ℕ) → between 0 m x ≡ true → leb x m ≡ true = λ x t. both-true (leb 0 x) (leb x m) t .1 in
-    rw (top hd (c .0), top hmp (d .0), top hif (f .0), top hed (g .0))
+-- so the record carries as many bytes of them as the call says
+pub length-carried : (c : Call) (rs : List ℕ) → restInRange c rs ≡ true → length (carried c rs) ≡ readingsSize c
+length-carried c rs e = length-take-le (readingsSize c) rs (readings-lent c rs e)

@@ -1,5 +1,6 @@
 -- The theorems on reading and writing.
 use mathlib.Core.Path.{_≡_, sym, ap, _∙_}
+use mathlib.Core.Bool.{true}
 use mathlib.Core.List.{List, _++_, append-assoc}
 use Prim.Native.Nat.{ℕ, _+_, _-_, _^_, _≤_, _<_}
 use native.Mathlib.Omega.{arith}
@@ -12,7 +13,7 @@ use Rattle.basis.proofs.Numbers.{length-bytesOf, number-bytesOf, bytesOf-number
 use Rattle.record.specs.Calls.{partsOf, callOf, readingsSize, fieldsSize, recordSize}
 use Rattle.record.specs.Fields.{encode, decode}
 use Rattle.record.specs.Forms.{formOf, marks, markAt}
-use Rattle.record.specs.Ranges.{callNumber}
+use Rattle.record.specs.Ranges.{fieldsInRange, callNumber}
 use Rattle.record.specs.Reading.{readAt, partOf}
 use Rattle.record.specs.RoundTrip.{WrittenIsRead, ReadIsWritten, ReadIsPlaced, ReadIsAlone}
 use Rattle.record.specs.Writing.{carried, recordOf, writtenBy}
@@ -20,10 +21,10 @@ use Rattle.record.specs.declared.calls.Call.{Call}
 use Rattle.record.specs.declared.forms.Mark.{Mark}
 use Rattle.record.specs.declared.forms.Found.the-variants.{One}
 use Rattle.record.proofs.Codec.{length-encode, decode-encode, encode-decode, decode-append}
-use Rattle.record.proofs.InRange.{in-range, lent}
+use Rattle.record.proofs.InRange.{in-range, length-carried}
 use Rattle.record.proofs.Reader.{part-of}
 use Rattle.record.proofs.Shows.{Shows, mark-found, read-shows, shows-read}
-use Rattle.record.proofs.Table.{lawful, whole}
+use Rattle.record.proofs.Table.{lawful, of-parts}
 use Rattle.record.proofs.Writer.{write-whole, write-put}
 
 -- the mark of a call's record, and its fields
@@ -35,18 +36,18 @@ fields c = encode (formOf (partsOf c .mark) .widths) (partsOf c .values)
 
 length-fields : (c : Call) → 2 + length (fields c) ≡ fieldsSize c
 length-fields c =
-    omega (arith, length-encode (formOf (partsOf c .mark) .widths) (partsOf c .values) (whole c .count), lawful (partsOf c .mark) .size)
+    omega (arith, length-encode (formOf (partsOf c .mark) .widths) (partsOf c .values) (of-parts c .count), lawful (partsOf c .mark) .size)
 
 -- a call in range at the start of a list
 module _ (c : Call) (rs : List ℕ) (e : callNumber c rs ≡ 0) where
-  length-carried : length (carried c rs) ≡ readingsSize c
-  length-carried = lent c rs (in-range c rs e .1) .size
+  carried-size : length (carried c rs) ≡ readingsSize c
+  carried-size = length-carried c rs (in-range c rs e .1)
 
   pub length-record : length (recordOf c rs) ≡ recordSize c
   unfolding recordOf
   length-record =
       length-append (front c) (fields c ++ carried c rs)
-      ∙ omega (arith, length-append (fields c) (carried c rs), length-bytesOf 2 (formOf (partsOf c .mark) .mark), length-fields c, length-carried)
+      ∙ omega (arith, length-append (fields c) (carried c rs), length-bytesOf 2 (formOf (partsOf c .mark) .mark), length-fields c, carried-size)
 
   module _ (rest : List ℕ) where
     all : List ℕ
@@ -71,8 +72,8 @@ module _ (c : Call) (rs : List ℕ) (e : callNumber c rs ≡ 0) where
     all-call =
         let f = formOf (partsOf c .mark) in
         let l = lawful (partsOf c .mark) in
-        rw (drop-at (front c) (fields c ++ (carried c rs ++ rest)) 2 (length-bytesOf 2 (f .mark)), decode-encode (f .widths) (f .least) (f .greatest) (partsOf c .values) (carried c rs ++ rest) (l .least) (whole c .count) (l .fits) (in-range c rs e .0))
-        (sym (whole c .again))
+        rw (drop-at (front c) (fields c ++ (carried c rs ++ rest)) 2 (length-bytesOf 2 (f .mark)), decode-encode (f .widths) (f .least) (f .greatest) (partsOf c .values) (carried c rs ++ rest) (l .least-count ∙ sym (l .widths-count)) (of-parts c .count) (l .fits) (in-range c rs e .0))
+        (sym (of-parts c .again (in-range c rs e .0)))
 
     all-size : recordSize c ≤ length all
     all-size = omega (arith, ap length all-record, length-append (recordOf c rs) rest, length-record)
@@ -94,7 +95,7 @@ module _ (c : Call) (rs : List ℕ) (e : callNumber c rs ≡ 0) where
         let z : length (front c ++ fields c) ≡ fieldsSize c = length-append (front c) (fields c) ∙ omega (arith, length-bytesOf 2 (formOf (partsOf c .mark) .mark), length-fields c) in
         let n : recordSize c - fieldsSize c ≡ readingsSize c = omega arith in
         sym (part-of all (fieldsSize c) (recordSize c) (omega arith) all-size)
-        ∙ rw (n, ← append-assoc (front c) (fields c) (carried c rs ++ rest), drop-at (front c ++ fields c) (carried c rs ++ rest) (fieldsSize c) z, take-at (carried c rs) rest (readingsSize c) length-carried)
+        ∙ rw (n, ← append-assoc (front c) (fields c) (carried c rs ++ rest), drop-at (front c ++ fields c) (carried c rs ++ rest) (fieldsSize c) z, take-at (carried c rs) rest (readingsSize c) carried-size)
 
 -- a call in range, written to a buffer that is long enough, reads back
 pub written-is-read : WrittenIsRead
@@ -126,12 +127,16 @@ module _ (s : List ℕ) (at : ℕ) (c : Call) (from next : ℕ) (w : Shows s at 
       sym (part-of s at next (omega (arith, w .behind)) (w .there))
       ∙ rw (n, take-add 2 (k + (next - from)) (drop at s), drop-drop 2 at s, take-add k (next - from) (drop (at + 2) s), drop-drop k (at + 2) s, ← f, part-of s from next (omega (arith, w .start, w .behind)) (w .there))
 
-  mark-again : partsOf c .mark ≡ w .mark
-  mark-again =
-      ap (λ (d : Call). partsOf d .mark) (w .call) ∙ lawful (w .mark) .marked (decode (formOf (w .mark) .widths) (drop (at + 2) s))
+  -- in range, the record of the call is that which was read, and so are its values
+  mark-again : fieldsInRange c ≡ true → partsOf c .mark ≡ w .mark
+  mark-again e =
+      ap (λ (d : Call). partsOf d .mark) (w .call)
+      ∙ lawful (w .mark) .marked (decode (formOf (w .mark) .widths) (drop (at + 2) s)) (ap fieldsInRange (sym (w .call)) ∙ e)
 
-  values-again : partsOf c .values ≡ decode (formOf (w .mark) .widths) (drop (at + 2) s)
-  values-again = ap (λ (d : Call). partsOf d .values) (w .call) ∙ lawful (w .mark) .values (drop (at + 2) s)
+  values-again : fieldsInRange c ≡ true → partsOf c .values ≡ decode (formOf (w .mark) .widths) (drop (at + 2) s)
+  values-again e =
+      ap (λ (d : Call). partsOf d .values) (w .call)
+      ∙ lawful (w .mark) .values (drop (at + 2) s) (ap fieldsInRange (sym (w .call)) ∙ e)
 
   -- the record of the call that was read
   record-again : Bytes s → callNumber c (partOf s from next) ≡ 0 → recordOf c (partOf s from next) ≡ partOf s at next
@@ -139,10 +144,10 @@ module _ (s : List ℕ) (at : ℕ) (c : Call) (from next : ℕ) (w : Shows s at 
   record-again h e =
       let rs : List ℕ = partOf s from next in
       let ws : List ℕ = formOf (w .mark) .widths in
-      let l = lent c rs (in-range c rs e .1) in
+      let i = in-range c rs e .0 in
       let p = part-of s from next (omega (arith, w .start, w .behind)) (w .there) in
       let lr : length rs ≤ readingsSize c = omega (arith, ap length (sym p), length-take (next - from) (drop from s), w .start, w .behind) in
-      let r : carried c rs ≡ rs = sym (l .taken) ∙ take-all (readingsSize c) rs lr in
+      let r : carried c rs ≡ rs = take-all (readingsSize c) rs lr in
       let two : length (take 2 (drop at s)) ≡ 2 = length-take-le 2 (drop at s) (omega (arith, length-drop at s, size-law, w .behind, w .there)) in
       let mk : bytesOf 2 (formOf (w .mark) .mark) ≡ take 2 (drop at s) =
       ap (λ x. bytesOf 2 x) (mark-found (numberAt 2 s at) marks (w .mark) (w .found))
@@ -150,7 +155,7 @@ module _ (s : List ℕ) (at : ℕ) (c : Call) (from next : ℕ) (w : Shows s at 
       ∙ bytesOf-number (take 2 (drop at s)) (bytes-take 2 (drop at s) (bytes-drop at s h)) in
       let fs : encode ws (decode ws (drop (at + 2) s)) ≡ take (sum ws) (drop (at + 2) s) =
       encode-decode ws (drop (at + 2) s) (bytes-drop (at + 2) s h) (omega (arith, length-drop (at + 2) s, size-law, w .behind, w .there)) in
-      rw (mark-again, values-again, r, mk, fs) (sym read-bytes)
+      rw (mark-again i, values-again i, r, mk, fs) (sym read-bytes)
 
 -- a record read with its fields in range is written again to its own bytes
 pub read-is-written : ReadIsWritten
@@ -158,7 +163,7 @@ read-is-written s at c from next out h r e k =
     let w = read-shows s at c from next r in
     let z = record-again s at c from next w h e in
     let n : recordSize c ≤ length out =
-    omega (arith, w .behind, ap (λ (m : Mark). formOf m .size) (mark-again s at c from next w)) in
+    omega (arith, w .behind, ap (λ (m : Mark). formOf m .size) (mark-again s at c from next w (in-range c (partOf s from next) e .0))) in
     let a = write-whole c (partOf s from next) (length out) e n in
     record {
       accepted = a;

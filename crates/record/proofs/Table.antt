@@ -1,67 +1,107 @@
 -- What each line of the table of records shows, by computation.
-use mathlib.Core.Path.{_≡_, refl}
+use mathlib.Core.Path.{_≡_, refl, ap, _∙_}
 use mathlib.Core.Bool.{true}
 use mathlib.Core.List.{List}
-use Prim.Native.Nat.{ℕ, _+_}
-use lib.Dec.{ltb}
+use Prim.Native.Nat.{ℕ, _+_, _≤_}
+use native.Mathlib.Omega.{arith}
+use borrow.Author.Tests.{leb-true}
+use lib.Dec.{leb, ltb}
 use lib.ListN.{length}
 use Rattle.basis.specs.Numbers.{number}
 use Rattle.basis.specs.Sums.{sum, allAtMost}
-use Rattle.record.specs.Calls.{partsOf, callOf}
+use Rattle.record.specs.Calls.{partsOf, callOf, readingsBehind, readingsSize}
 use Rattle.record.specs.Fields.{decode}
-use Rattle.record.specs.Forms.{formOf, marks, findMark, markAt}
+use Rattle.record.specs.Forms.{mostFields, widest, formOf, marks, findMark, markAt}
+use Rattle.record.specs.Ranges.{fieldsInRange}
 use Rattle.record.specs.declared.calls.Call.{Call}
 use Rattle.record.specs.declared.calls.Call.the-variants as call
+use Rattle.record.specs.declared.calls.Parts.{Parts}
+use Rattle.record.specs.declared.forms.Form.{Form}
 use Rattle.record.specs.declared.forms.Found.the-variants.{One}
 use Rattle.record.specs.declared.forms.Mark.{Mark}
 use Rattle.record.specs.declared.forms.Mark.the-variants as mark
 use Rattle.record.proofs.Codec.{fitAll}
 
--- a line of the table: its mark finds it, its size is that of mark and fields, no field is wider than four bytes or than its
--- values ask, and the call of what is read has these values
+-- what holds of each line of the table
 pub record Lawful (m : Mark) : Type 0 where
+  -- the mark has two bytes and finds the line
   pub pair : ltb (formOf m .mark) 65536 ≡ true
   pub found : markAt (formOf m .mark) ≡ One m
+  -- the size is that of mark and fields
   pub size : formOf m .size ≡ 2 + sum (formOf m .widths)
   pub short : ltb (formOf m .size) 256 ≡ true
-  pub least : length (formOf m .least) ≡ length (formOf m .widths)
-  pub narrow : allAtMost 4 (formOf m .widths) ≡ true
+  -- the line has a place for each field that a record can have
+  pub widths-count : length (formOf m .widths) ≡ mostFields
+  pub least-count : length (formOf m .least) ≡ mostFields
+  pub greatest-count : length (formOf m .greatest) ≡ mostFields
+  -- no field or reading is wider than the widest, and each value in range fits its field
+  pub narrow : allAtMost widest (formOf m .widths) ≡ true
+  pub reading : leb (formOf m .«reading_width») widest ≡ true
   pub fits : fitAll (formOf m .widths) (formOf m .greatest) ≡ true
-  pub marked : (v : List ℕ) → partsOf (callOf m v) .mark ≡ m
-  pub values : (s : List ℕ) → partsOf (callOf m (decode (formOf m .widths) s)) .values ≡ decode (formOf m .widths) s
+  -- the call of these values has as many readings as the record says
+  pub readings : (v : List ℕ) → readingsSize (callOf m v) ≡ readingsBehind (formOf m) v
+  -- the call of what is read, in range, has this record and these values; while each call has one record, those out of range do so too
+  pub marked : (v : List ℕ) → fieldsInRange (callOf m v) ≡ true → partsOf (callOf m v) .mark ≡ m
+  pub values : (s : List ℕ) → fieldsInRange (callOf m (decode (formOf m .widths) s)) ≡ true → partsOf (callOf m (decode (formOf m .widths) s)) .values ≡ decode (formOf m .widths) s
 
 -- all of it is found by computing
-lawful-by : {m : Mark} → ltb (formOf m .mark) 65536 ≡ true → markAt (formOf m .mark) ≡ One m → formOf m .size ≡ 2 + sum (formOf m .widths) → ltb (formOf m .size) 256 ≡ true → length (formOf m .least) ≡ length (formOf m .widths) → allAtMost 4 (formOf m .widths) ≡ true → fitAll (formOf m .widths) (formOf m .greatest) ≡ true → ((v : List ℕ) → partsOf (callOf m v) .mark ≡ m) → ((s : List ℕ) → partsOf (callOf m (decode (formOf m .widths) s)) .values ≡ decode (formOf m .widths) s) → Lawful m
-lawful-by a b c d e f g h i =
-    record { pair = a; found = b; size = c; short = d; least = e; narrow = f; fits = g; marked = h; values = i }
+lawful-by : {m : Mark} → ltb (formOf m .mark) 65536 ≡ true → markAt (formOf m .mark) ≡ One m → formOf m .size ≡ 2 + sum (formOf m .widths) → ltb (formOf m .size) 256 ≡ true → length (formOf m .widths) ≡ mostFields → length (formOf m .least) ≡ mostFields → length (formOf m .greatest) ≡ mostFields → allAtMost widest (formOf m .widths) ≡ true → fitAll (formOf m .widths) (formOf m .greatest) ≡ true → leb (formOf m .«reading_width») widest ≡ true → ((v : List ℕ) → readingsSize (callOf m v) ≡ readingsBehind (formOf m) v) → ((v : List ℕ) → fieldsInRange (callOf m v) ≡ true → partsOf (callOf m v) .mark ≡ m) → ((s : List ℕ) → fieldsInRange (callOf m (decode (formOf m .widths) s)) ≡ true → partsOf (callOf m (decode (formOf m .widths) s)) .values ≡ decode (formOf m .widths) s) → Lawful m
+lawful-by a b c d w l u f g h i j k =
+    record {
+      pair = a;
+      found = b;
+      size = c;
+      short = d;
+      widths-count = w;
+      least-count = l;
+      greatest-count = u;
+      narrow = f;
+      fits = g;
+      reading = h;
+      readings = i;
+      marked = j;
+      values = k;
+    }
 
 pub lawful : (m : Mark) → Lawful m
-unfolding formOf marks findMark sum allAtMost fitAll partsOf callOf decode number
-lawful mark.Year = lawful-by refl refl refl refl refl refl refl (λ v. refl) (λ s. refl)
-lawful mark.Unit = lawful-by refl refl refl refl refl refl refl (λ v. refl) (λ s. refl)
-lawful mark.Test = lawful-by refl refl refl refl refl refl refl (λ v. refl) (λ s. refl)
-lawful mark.Availability = lawful-by refl refl refl refl refl refl refl (λ v. refl) (λ s. refl)
-lawful mark.Declare = lawful-by refl refl refl refl refl refl refl (λ v. refl) (λ s. refl)
-lawful mark.Fix = lawful-by refl refl refl refl refl refl refl (λ v. refl) (λ s. refl)
-lawful mark.Commit = lawful-by refl refl refl refl refl refl refl (λ v. refl) (λ s. refl)
-lawful mark.Release = lawful-by refl refl refl refl refl refl refl (λ v. refl) (λ s. refl)
-lawful mark.Meter = lawful-by refl refl refl refl refl refl refl (λ v. refl) (λ s. refl)
-lawful mark.Close = lawful-by refl refl refl refl refl refl refl (λ v. refl) (λ s. refl)
+unfolding formOf marks findMark sum allAtMost fitAll partsOf callOf readingsSize decode number
+lawful mark.Year = lawful-by refl refl refl refl refl refl refl refl refl refl (λ v. omega arith) (λ v e. refl) (λ s e. refl)
+lawful mark.Unit = lawful-by refl refl refl refl refl refl refl refl refl refl (λ v. omega arith) (λ v e. refl) (λ s e. refl)
+lawful mark.Test = lawful-by refl refl refl refl refl refl refl refl refl refl (λ v. omega arith) (λ v e. refl) (λ s e. refl)
+lawful mark.Availability = lawful-by refl refl refl refl refl refl refl refl refl refl (λ v. omega arith) (λ v e. refl) (λ s e. refl)
+lawful mark.Declare = lawful-by refl refl refl refl refl refl refl refl refl refl (λ v. omega arith) (λ v e. refl) (λ s e. refl)
+lawful mark.Fix = lawful-by refl refl refl refl refl refl refl refl refl refl (λ v. omega arith) (λ v e. refl) (λ s e. refl)
+lawful mark.Commit = lawful-by refl refl refl refl refl refl refl refl refl refl (λ v. omega arith) (λ v e. refl) (λ s e. refl)
+lawful mark.Release = lawful-by refl refl refl refl refl refl refl refl refl refl (λ v. omega arith) (λ v e. refl) (λ s e. refl)
+lawful mark.Meter = lawful-by refl refl refl refl refl refl refl refl refl refl (λ v. omega arith) (λ v e. refl) (λ s e. refl)
+lawful mark.Close = lawful-by refl refl refl refl refl refl refl refl refl refl (λ v. omega arith) (λ v e. refl) (λ s e. refl)
 
--- a call is made of its parts, of as many values as its record has fields
-pub record Whole (c : Call) : Type 0 where
-  pub again : callOf (partsOf c .mark) (partsOf c .values) ≡ c
+-- the form of a record has no reading that is wider than the widest
+pub narrow-reading : (m : Mark) (f : Form) → f ≡ formOf m → f .«reading_width» ≤ widest
+narrow-reading m f e =
+    omega (arith, ap (λ (g : Form). g .«reading_width») e, leb-true (formOf m .«reading_width») widest (lawful m .reading))
+
+-- the bytes of a call's readings, by its parts
+pub readings-by-parts : (c : Call) (p : Parts) (f : Form) → p ≡ partsOf c → f ≡ formOf (p .mark) → readingsBehind f (p .values) ≡ readingsSize c
+unfolding readingsSize
+readings-by-parts c p f ep ef =
+    ap (λ (g : Form). readingsBehind g (p .values)) ef
+    ∙ ap (λ (q : Parts). readingsBehind (formOf (q .mark)) (q .values)) ep
+
+-- a call in range is made of its parts (while each call has one record, every call is), of as many values as its record has fields
+pub record OfParts (c : Call) : Type 0 where
+  pub again : fieldsInRange c ≡ true → callOf (partsOf c .mark) (partsOf c .values) ≡ c
   pub count : length (partsOf c .values) ≡ length (formOf (partsOf c .mark) .widths)
 
-pub whole : (c : Call) → Whole c
+pub of-parts : (c : Call) → OfParts c
 unfolding formOf partsOf callOf
-whole (call.Year nhrm nhmd ndhmd) = record { again = refl; count = refl }
-whole (call.Unit unit producer kind flags pic ppr e1 e2 cap) = record { again = refl; count = refl }
-whole (call.Test unit component ending tc count) = record { again = refl; count = refl }
-whole (call.Availability unit component hd hmp hif hed) = record { again = refl; count = refl }
-whole (call.Declare consumer d a) = record { again = refl; count = refl }
-whole (call.Fix dmp) = record { again = refl; count = refl }
-whole (call.Commit producer consumer q) = record { again = refl; count = refl }
-whole (call.Release producer consumer q) = record { again = refl; count = refl }
-whole (call.Meter consumer dreal) = record { again = refl; count = refl }
-whole (call.Close p) = record { again = refl; count = refl }
+of-parts (call.Year nhrm nhmd ndhmd) = record { again = λ e. refl; count = refl }
+of-parts (call.Unit unit producer kind flags pic ppr e1 e2 cap) = record { again = λ e. refl; count = refl }
+of-parts (call.Test unit component ending tc count) = record { again = λ e. refl; count = refl }
+of-parts (call.Availability unit component hd hmp hif hed) = record { again = λ e. refl; count = refl }
+of-parts (call.Declare consumer d a) = record { again = λ e. refl; count = refl }
+of-parts (call.Fix dmp) = record { again = λ e. refl; count = refl }
+of-parts (call.Commit producer consumer q) = record { again = λ e. refl; count = refl }
+of-parts (call.Release producer consumer q) = record { again = λ e. refl; count = refl }
+of-parts (call.Meter consumer dreal) = record { again = λ e. refl; count = refl }
+of-parts (call.Close p) = record { again = λ e. refl; count = refl }

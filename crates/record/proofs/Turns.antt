@@ -9,14 +9,8 @@ use lib.ListN.{length, getD, take, drop, set, drop-of-length-le}
 use lib.Seq.{drop-cons, take-suc-set, drop-drop, take-all}
 use Rattle.basis.specs.Choice.{pick, between}
 use Rattle.basis.specs.Numbers.{bytesOf, numberAt, written}
-use Rattle.basis.specs.Sums.{sum}
-use Rattle.basis.proofs.Sums.{sum-cons}
 use Rattle.basis.proofs.Numbers.{length-bytesOf, written-append}
 use Rattle.record.specs.Fields.{encode, decode, withinAll}
-
--- the widths from i on
-pub sum-more : (ws : List ℕ) (i : ℕ) → i < length ws → sum (drop i ws) ≡ getD ws i 0 + sum (drop (i + 1) ws)
-sum-more ws i h = rw (add-one, drop-cons ws i 0 h) (sum-cons (getD ws i 0) (drop (suc i) ws))
 
 -- a field read
 pub decode-more : (ws s values : List ℕ) (i place v : ℕ) → i < length ws → i < length values → v ≡ numberAt (getD ws i 0) s place → take (i + 1) (set values i v) ++ decode (drop (i + 1) ws) (drop (place + getD ws i 0) s) ≡ take i values ++ decode (drop i ws) (drop place s)

@@ -6,6 +6,7 @@ use Rattle.record.specs.Forms.{formOf}
 use Rattle.record.specs.declared.calls.Call.{Call}
 use Rattle.record.specs.declared.calls.Call.the-variants as call
 use Rattle.record.specs.declared.calls.Parts.{Parts}
+use Rattle.record.specs.declared.forms.Form.{Form}
 use Rattle.record.specs.declared.forms.Mark.{Mark}
 use Rattle.record.specs.declared.forms.Mark.the-variants as mark
 
@@ -16,7 +17,7 @@ zeros n = replicate n 0
 abbrev pub parts : Mark → List ℕ → Parts
 parts m vs = record { mark = m; values = vs }
 
--- a call's record, and the values of its fields
+-- a call's record, and the values of its fields: the mark follows from the call's own fields
 unfoldable pub partsOf : Call → Parts
 partsOf (call.Year nhrm nhmd ndhmd) = parts mark.Year (nhrm ∷ nhmd ∷ ndhmd ∷ zeros 6)
 partsOf (call.Unit unit producer kind flags pic ppr e1 e2 cap) =
@@ -32,7 +33,7 @@ partsOf (call.Release producer consumer q) = parts mark.Release (producer ∷ co
 partsOf (call.Meter consumer dreal) = parts mark.Meter (consumer ∷ dreal ∷ zeros 7)
 partsOf (call.Close p) = parts mark.Close (p ∷ zeros 8)
 
--- the call of a record with these values
+-- the call of a record with these values; with values out of the record's range, a call out of range
 unfoldable pub callOf : Mark → List ℕ → Call
 callOf mark.Year v = call.Year (getD v 0 0) (getD v 1 0) (getD v 2 0)
 callOf mark.Unit v =
@@ -47,18 +48,17 @@ callOf mark.Release v = call.Release (getD v 0 0) (getD v 1 0) (getD v 2 0)
 callOf mark.Meter v = call.Meter (getD v 0 0) (getD v 1 0)
 callOf mark.Close v = call.Close (getD v 0 0)
 
--- the bytes of a test's readings, four for each of its count; another call has none
+-- the place of the count of readings among the fields
+abbrev pub countPlace : ℕ
+countPlace = 4
+
+-- the bytes of the readings behind fields with these values: so many as the form says for each of the count
+abbrev pub readingsBehind : Form → List ℕ → ℕ
+readingsBehind f vs = f .«reading_width» * getD vs countPlace 0
+
+-- the bytes of a call's readings: only a test has some
 unfoldable pub readingsSize : Call → ℕ
-readingsSize (call.Year nhrm nhmd ndhmd) = 0
-readingsSize (call.Unit unit producer kind flags pic ppr e1 e2 cap) = 0
-readingsSize (call.Test unit component ending tc count) = 4 * count
-readingsSize (call.Availability unit component hd hmp hif hed) = 0
-readingsSize (call.Declare consumer d a) = 0
-readingsSize (call.Fix dmp) = 0
-readingsSize (call.Commit producer consumer q) = 0
-readingsSize (call.Release producer consumer q) = 0
-readingsSize (call.Meter consumer dreal) = 0
-readingsSize (call.Close p) = 0
+readingsSize c = readingsBehind (formOf (partsOf c .mark)) (partsOf c .values)
 
 -- the bytes of a call's mark and fields
 abbrev pub fieldsSize : Call → ℕ

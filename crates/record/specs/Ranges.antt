@@ -1,10 +1,11 @@
 -- Number 3: the ranges of a call's fields, and of the readings lent with a test ("Journal records", "Numbered replies").
-use mathlib.Core.Bool.{Bool, true, false}
+use mathlib.Core.Bool.{Bool, true, false, not}
 use mathlib.Core.List.{List}
-use Prim.Native.Nat.{ℕ, _/_, _%_}
+use Prim.Native.Nat.{ℕ}
 use lib.Dec.{eqb}
 use Rattle.basis.specs.Choice.{pick, between}
-use Rattle.plant.specs.Ranges.{testInRange}
+use Rattle.quantities.specs.Flags.{injectionGiven, reportHeld, flagged}
+use Rattle.power.specs.Ranges.{testInRange}
 use Rattle.record.specs.Calls.{partsOf}
 use Rattle.record.specs.Fields.{withinAll}
 use Rattle.record.specs.Forms.{formOf}
@@ -23,15 +24,19 @@ usesOf kind =
       cap = eqb kind 8;
     }
 
+-- a flag that is not used does not stand
+abbrev pub unsetUnless : Bool → Bool → Bool
+unsetUnless used stands = pick used true (not stands)
+
 -- a field that is not used is 0
 abbrev pub zeroUnless : Bool → ℕ → Bool
 zeroUnless used x = pick used true (eqb x 0)
 
--- the flags and fields of a unit that its kind and flags do not use are 0; flag 8 says that PIC is given
+-- the flags and fields of a unit that its kind and flags do not use are 0: PIC is used where it is given
 unfoldable pub unusedZero : Uses → ℕ → ℕ → ℕ → ℕ → ℕ → ℕ → Bool
 unusedZero used flags pic ppr e1 e2 cap =
-    pick (zeroUnless (used .report) (flags / 16 % 2))
-    (pick (zeroUnless (eqb (flags / 8 % 2) 1) pic)
+    pick (unsetUnless (used .report) (flagged reportHeld flags))
+    (pick (zeroUnless (flagged injectionGiven flags) pic)
     (pick (zeroUnless (used .ppr) ppr)
     (pick (zeroUnless (used .e1) e1)
     (pick (zeroUnless (used .e2) e2) (zeroUnless (used .cap) cap) false)

@@ -40,7 +40,7 @@ ReadIsWritten =
     WrittenBack s at c from next out
 
 -- a read record's next place is beyond its start and within the journal, and its readings stand before the next place
-pub record Placed (s : List ℕ) (at from next : ℕ) : Type 0 where
+pub record ReadPlace (s : List ℕ) (at from next : ℕ) : Type 0 where
   pub beyond : at < next
   pub within : next ≤ length s
   pub readings-beyond : at < from
@@ -48,7 +48,7 @@ pub record Placed (s : List ℕ) (at from next : ℕ) : Type 0 where
 
 abbrev pub ReadIsPlaced : Type 0
 ReadIsPlaced =
-    (s : List ℕ) (at : ℕ) (c : Call) (from next : ℕ) → readAt s at ≡ Record c from next → Placed s at from next
+    (s : List ℕ) (at : ℕ) (c : Call) (from next : ℕ) → readAt s at ≡ Record c from next → ReadPlace s at from next
 
 -- the record reads the same, with the same readings, whatever else follows it
 pub record Alone (s : List ℕ) (at : ℕ) (c : Call) (from next : ℕ) (more : List ℕ) : Type 0 where

@@ -1,29 +1,19 @@
--- Writing: number 3, then number 15, and only the record's bytes ("Journal records", "Numbered replies").
-use mathlib.Core.List.{List, [], _++_}
+-- Writing: the number of the call, then number 15, and only the record's bytes ("Journal records", "Numbered replies").
+use mathlib.Core.List.{List, _++_}
 use Prim.Native.Nat.{ℕ}
 use lib.Dec.{eqb, ltb}
-use lib.ListN.{length}
+use lib.ListN.{length, take}
 use Rattle.basis.specs.Choice.{pick}
 use Rattle.basis.specs.Numbers.{bytesOf, written}
-use Rattle.record.specs.Calls.{partsOf, recordSize}
+use Rattle.record.specs.Calls.{partsOf, readingsSize, recordSize}
 use Rattle.record.specs.Fields.{encode}
 use Rattle.record.specs.Forms.{formOf}
 use Rattle.record.specs.Ranges.{callNumber}
 use Rattle.record.specs.declared.calls.Call.{Call}
-use Rattle.record.specs.declared.calls.Call.the-variants.{Year, Unit, Test, Availability, Declare, Fix, Commit, Release, Meter, Close}
 
--- the readings that a call's record carries: those lent with a test, none with another call
-unfoldable pub carried : Call → List ℕ → List ℕ
-carried (Year nhrm nhmd ndhmd) readings = []
-carried (Unit unit producer kind flags pic ppr e1 e2 cap) readings = []
-carried (Test unit component ending tc count) readings = readings
-carried (Availability unit component hd hmp hif hed) readings = []
-carried (Declare consumer d a) readings = []
-carried (Fix dmp) readings = []
-carried (Commit producer consumer q) readings = []
-carried (Release producer consumer q) readings = []
-carried (Meter consumer dreal) readings = []
-carried (Close p) readings = []
+-- the readings that a call's record carries: of those lent, as many bytes as the call says
+abbrev pub carried : Call → List ℕ → List ℕ
+carried c readings = take (readingsSize c) readings
 
 -- a record: the mark, the fields, the readings
 unfoldable pub recordOf : Call → List ℕ → List ℕ

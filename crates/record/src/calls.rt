@@ -1,7 +1,9 @@
 // The calls of the table of records, by value, and the fields of each.
 ghost use mathlib.Core.Path.{_≡_};
-ghost use Prim.Native.Nat.{_<_, _^_};
-ghost use Rattle.record.specs.Calls.{callOf, partsOf, readingsSize, recordSize};
+ghost use Prim.Native.Nat.{_*_, _<_, _≤_, _^_};
+ghost use lib.ListN.{getD};
+ghost use Rattle.record.specs.Calls.{callOf, partsOf, countPlace, recordSize};
+ghost use Rattle.record.specs.Forms.{widest};
 use crate::forms::FIELDS;
 use crate::forms::Mark;
 use crate::forms::form_of;
@@ -66,13 +68,16 @@ pub enum Call {
     },
 }
 
+// The place of the count of readings among the fields.
+const COUNT: usize = 4;
+
 // A call's record and the values of its fields, 0 where there is no field.
 pub struct Parts {
     pub mark: Mark,
     pub values: [u32; FIELDS],
 }
 
-// The fields of each call in the table's order.
+// The record of each call, and its fields in the table's order.
 pub fn parts_of(call: Call) -> Parts
     ensures { λ r. ⌜ r ≡ partsOf call ⌝ }
 {
@@ -218,28 +223,12 @@ fn wide(x: u32) -> usize
     x as usize
 }
 
-// The bytes of a call's readings, four for each.
-pub fn readings_size(call: Call) -> usize
-    ensures { λ r. ⌜ (r ≡ readingsSize call) × (r < 2 ^ 34) ⌝ }
+// The bytes of the readings, of so many bytes each, behind fields with these values.
+pub fn readings_behind(width: usize, values: [u32; FIELDS]) -> usize
+    requires { ⌜ width ≤ widest ⌝ }
+    ensures { λ r. ⌜ (r ≡ width * getD values countPlace 0) × (r < 2 ^ 34) ⌝ }
 {
-    match call {
-        Call::Year { .. } => 0,
-        Call::Unit { .. } => 0,
-        Call::Test {
-            unit: _,
-            component: _,
-            ending: _,
-            tc: _,
-            count,
-        } => 4 * wide(count),
-        Call::Availability { .. } => 0,
-        Call::Declare { .. } => 0,
-        Call::Fix { .. } => 0,
-        Call::Commit { .. } => 0,
-        Call::Release { .. } => 0,
-        Call::Meter { .. } => 0,
-        Call::Close { .. } => 0,
-    }
+    width * wide(values[COUNT])
 }
 
 // The bytes of a call's record.
@@ -248,7 +237,8 @@ pub fn record_size(call: Call) -> usize
 {
     let parts = parts_of(call);
     let mark = parts.mark;
+    let values = parts.values;
     let form = form_of(mark);
-    let fields = form.size;
-    fields + readings_size(call)
+    let size = form.size;
+    size + readings_behind(form.reading_width, values)
 }

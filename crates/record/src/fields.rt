@@ -6,11 +6,12 @@ ghost use lib.ListN.{length, drop};
 ghost use Rattle.basis.specs.Numbers.{written};
 ghost use Rattle.basis.specs.Sums.{sum, allAtMost};
 ghost use Rattle.record.specs.Fields.{encode, decode, withinAll};
+ghost use Rattle.record.specs.Forms.{widest};
 use crate::forms::FIELDS;
 
 // The numbers of s from `at` on, of these widths.
 pub fn fields_at(s: &[u8], at: usize, widths: [usize; FIELDS]) -> [u32; FIELDS]
-    requires { ⌜ (allAtMost 4 widths ≡ true) × (at + sum widths ≤ length (now s)) ⌝ }
+    requires { ⌜ (allAtMost widest widths ≡ true) × (at + sum widths ≤ length (now s)) ⌝ }
     ensures { λ r. ⌜ r ≡ decode widths (drop at (now (s .entry))) ⌝ }
 {
     let mut values = [0; FIELDS];

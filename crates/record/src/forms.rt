@@ -1,24 +1,26 @@
 // The table of records: the mark of each, and the width and range of each of its fields.
 ghost use mathlib.Core.Path.{_≡_};
 ghost use Rattle.record.specs.Forms.{formOf, markAt};
+use quantities::ALL_FLAGS;
+use quantities::GREATEST_COMPONENT;
+use quantities::GREATEST_COUNT;
+use quantities::GREATEST_DAY_HOURS;
+use quantities::GREATEST_ENDING;
+use quantities::GREATEST_ENERGY;
+use quantities::GREATEST_HOURS;
+use quantities::GREATEST_KIND;
+use quantities::GREATEST_MINUTES;
+use quantities::GREATEST_POWER;
+use quantities::GREATEST_PRICE;
+use quantities::GREATEST_TIME;
+use quantities::LEAST_TIME;
 
-// The greatest number of a unit.
-const UNITS: u32 = plant::UNITS as u32;
+// The greatest unit, producer and consumer that a field names.
+const UNITS: u32 = quantities::UNITS as u32;
 
-// The greatest number of a producer.
-pub const PRODUCERS: u32 = 16;
+const PRODUCERS: u32 = quantities::PRODUCERS as u32;
 
-// The greatest number of a consumer.
-pub const CONSUMERS: u32 = 64;
-
-// The greatest value of a field of power, in kW.
-const POWER: u32 = 3_000_000;
-
-// The greatest energy that is no reading, in kWh.
-const ENERGY: u32 = 4_000_000_000;
-
-// The greatest figure of availability, in minutes.
-const MINUTES: u32 = 1_052_640;
+const CONSUMERS: u32 = quantities::BYTE_CONSUMERS as u32;
 
 // The marks as numbers, low byte first: 59 52 is 0x5259.
 const YEAR: u32 = 0x5259;
@@ -64,13 +66,15 @@ pub enum Found {
     One(Mark),
 }
 
-// A record's mark, low byte first, the bytes of mark and fields together, and each field's width, least and greatest value.
+// A record's mark, low byte first, the bytes of mark and fields together, each field's width, least and greatest value, and the bytes of
+// each reading behind the fields.
 pub struct Form {
     pub mark: u32,
     pub size: usize,
     pub widths: [usize; FIELDS],
     pub least: [u32; FIELDS],
     pub greatest: [u32; FIELDS],
+    pub reading_width: usize,
 }
 
 // The table: 'Journal records' line by line.
@@ -83,7 +87,18 @@ pub fn form_of(mark: Mark) -> Form
             size: 7,
             widths: [2, 2, 1, 0, 0, 0, 0, 0, 0],
             least: [1, 1, 1, 0, 0, 0, 0, 0, 0],
-            greatest: [744, 744, 24, 0, 0, 0, 0, 0, 0],
+            greatest: [
+                GREATEST_HOURS,
+                GREATEST_HOURS,
+                GREATEST_DAY_HOURS,
+                0,
+                0,
+                0,
+                0,
+                0,
+                0,
+            ],
+            reading_width: 0,
         },
         Mark::Unit => Form {
             mark: UNIT,
@@ -93,70 +108,99 @@ pub fn form_of(mark: Mark) -> Form
             greatest: [
                 UNITS,
                 PRODUCERS,
-                8,
-                31,
-                POWER,
-                POWER,
-                ENERGY,
-                ENERGY,
-                ENERGY,
+                GREATEST_KIND,
+                ALL_FLAGS,
+                GREATEST_POWER,
+                GREATEST_POWER,
+                GREATEST_ENERGY,
+                GREATEST_ENERGY,
+                GREATEST_ENERGY,
             ],
+            reading_width: 0,
         },
         Mark::Test => Form {
             mark: TEST,
             size: 7,
             widths: [1, 1, 1, 1, 1, 0, 0, 0, 0],
-            least: [1, 0, 0, 4, 0, 0, 0, 0, 0],
-            greatest: [UNITS, 2, 2, 96, 96, 0, 0, 0, 0],
+            least: [1, 0, 0, LEAST_TIME, 0, 0, 0, 0, 0],
+            greatest: [
+                UNITS,
+                GREATEST_COMPONENT,
+                GREATEST_ENDING,
+                GREATEST_TIME,
+                GREATEST_COUNT,
+                0,
+                0,
+                0,
+                0,
+            ],
+            reading_width: 4,
         },
         Mark::Availability => Form {
             mark: AVAILABILITY,
             size: 20,
             widths: [1, 1, 4, 4, 4, 4, 0, 0, 0],
             least: [1, 0, 0, 0, 0, 0, 0, 0, 0],
-            greatest: [UNITS, 2, MINUTES, MINUTES, MINUTES, MINUTES, 0, 0, 0],
+            greatest: [
+                UNITS,
+                GREATEST_COMPONENT,
+                GREATEST_MINUTES,
+                GREATEST_MINUTES,
+                GREATEST_MINUTES,
+                GREATEST_MINUTES,
+                0,
+                0,
+                0,
+            ],
+            reading_width: 0,
         },
         Mark::Declare => Form {
             mark: DECLARE,
             size: 11,
             widths: [1, 4, 4, 0, 0, 0, 0, 0, 0],
             least: [1, 0, 0, 0, 0, 0, 0, 0, 0],
-            greatest: [CONSUMERS, POWER, POWER, 0, 0, 0, 0, 0, 0],
+            greatest: [CONSUMERS, GREATEST_POWER, GREATEST_POWER, 0, 0, 0, 0, 0, 0],
+            reading_width: 0,
         },
         Mark::Fix => Form {
             mark: FIX,
             size: 6,
             widths: [4, 0, 0, 0, 0, 0, 0, 0, 0],
             least: [1, 0, 0, 0, 0, 0, 0, 0, 0],
-            greatest: [POWER, 0, 0, 0, 0, 0, 0, 0, 0],
+            greatest: [GREATEST_POWER, 0, 0, 0, 0, 0, 0, 0, 0],
+            reading_width: 0,
         },
         Mark::Commit => Form {
             mark: COMMIT,
             size: 8,
             widths: [1, 1, 4, 0, 0, 0, 0, 0, 0],
             least: [1, 1, 1, 0, 0, 0, 0, 0, 0],
-            greatest: [PRODUCERS, CONSUMERS, POWER, 0, 0, 0, 0, 0, 0],
+            greatest: [PRODUCERS, CONSUMERS, GREATEST_POWER, 0, 0, 0, 0, 0, 0],
+            reading_width: 0,
         },
         Mark::Release => Form {
             mark: RELEASE,
             size: 8,
             widths: [1, 1, 4, 0, 0, 0, 0, 0, 0],
             least: [1, 1, 1, 0, 0, 0, 0, 0, 0],
-            greatest: [PRODUCERS, CONSUMERS, POWER, 0, 0, 0, 0, 0, 0],
+            greatest: [PRODUCERS, CONSUMERS, GREATEST_POWER, 0, 0, 0, 0, 0, 0],
+            reading_width: 0,
         },
         Mark::Meter => Form {
             mark: METER,
             size: 7,
             widths: [1, 4, 0, 0, 0, 0, 0, 0, 0],
             least: [1, 0, 0, 0, 0, 0, 0, 0, 0],
-            greatest: [CONSUMERS, POWER, 0, 0, 0, 0, 0, 0, 0],
+            greatest: [CONSUMERS, GREATEST_POWER, 0, 0, 0, 0, 0, 0, 0],
+            reading_width: 0,
         },
         Mark::Close => Form {
             mark: CLOSE,
             size: 4,
             widths: [2, 0, 0, 0, 0, 0, 0, 0, 0],
             least: [1, 0, 0, 0, 0, 0, 0, 0, 0],
-            greatest: [2500, 0, 0, 0, 0, 0, 0, 0, 0],
+            greatest: [GREATEST_PRICE, 0, 0, 0, 0, 0, 0, 0, 0],
+            reading_width: 0,
         },
     }
 }

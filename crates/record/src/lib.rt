@@ -8,8 +8,6 @@ mod writing; // writing.rt: the writer
 
 pub use calls::Call;
 pub use calls::record_size;
-pub use forms::CONSUMERS;
-pub use forms::PRODUCERS;
 pub use ranges::call_number;
 pub use reading::Read;
 pub use reading::read_at;

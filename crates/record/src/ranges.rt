@@ -1,10 +1,13 @@
 // Number 3: the ranges of a call's fields, and of the readings lent with a test.
 ghost use mathlib.Core.Path.{_≡_};
-ghost use Rattle.record.specs.Ranges.{usesOf, zeroUnless, unusedZero, restInRange, callNumber};
+ghost use Rattle.record.specs.Ranges.{usesOf, unsetUnless, zeroUnless, unusedZero, restInRange, callNumber};
 use crate::calls::Call;
 use crate::calls::parts_of;
 use crate::fields::within;
 use crate::forms::form_of;
+use quantities::INJECTION_GIVEN;
+use quantities::REPORT_HELD;
+use quantities::is_flagged;
 
 // The fields that a kind of unit uses, with the flag of its supply report.
 pub struct Uses {
@@ -24,7 +27,7 @@ const NONE: Uses = Uses {
     cap: false,
 };
 
-// Flag 16 and the fields PPR, E1, E2 and CAP by kind.
+// The flag of the supply report and the fields PPR, E1, E2 and CAP by kind.
 pub fn uses_of(kind: u32) -> Uses
     ensures { λ r. ⌜ r ≡ usesOf kind ⌝ }
 {
@@ -49,6 +52,16 @@ pub fn uses_of(kind: u32) -> Uses
     }
 }
 
+// A flag that is not used does not stand.
+pub fn unset_unless(used: bool, stands: bool) -> bool
+    ensures { λ r. ⌜ r ≡ unsetUnless used stands ⌝ }
+{
+    if used {
+        return true;
+    }
+    !stands
+}
+
 // A field that is not used is 0.
 pub fn zero_unless(used: bool, value: u32) -> bool
     ensures { λ r. ⌜ r ≡ zeroUnless used value ⌝ }
@@ -63,10 +76,10 @@ pub fn zero_unless(used: bool, value: u32) -> bool
 pub fn unused_zero(uses: Uses, flags: u32, pic: u32, ppr: u32, e1: u32, e2: u32, cap: u32) -> bool
     ensures { λ r. ⌜ r ≡ unusedZero uses flags pic ppr e1 e2 cap ⌝ }
 {
-    if !zero_unless(uses.report, flags / 16 % 2) {
+    if !unset_unless(uses.report, is_flagged(REPORT_HELD, flags)) {
         return false;
     }
-    if !zero_unless(flags / 8 % 2 == 1, pic) {
+    if !zero_unless(is_flagged(INJECTION_GIVEN, flags), pic) {
         return false;
     }
     if !zero_unless(uses.ppr, ppr) {

@@ -5,7 +5,7 @@ ghost use lib.ListN.{length};
 ghost use Rattle.record.specs.Reading.{readMarked, readAt, stopNumber, partOf};
 use crate::calls::Call;
 use crate::calls::call_of;
-use crate::calls::readings_size;
+use crate::calls::readings_behind;
 use crate::fields::fields_at;
 use crate::forms::Found;
 use crate::forms::Mark;
@@ -37,15 +37,15 @@ pub fn read_marked(journal: &[u8], at: usize, mark: Mark) -> Read
     if left < size {
         return Read::Cut;
     }
-    let call = call_of(mark, fields_at(journal, at + 2, widths));
-    let length = readings_size(call);
-    if left - size < length {
+    let values = fields_at(journal, at + 2, widths);
+    let more = readings_behind(form.reading_width, values);
+    if left - size < more {
         return Read::Cut;
     }
     Read::Record {
-        call,
+        call: call_of(mark, values),
         readings: at + size,
-        next: at + size + length,
+        next: at + size + more,
     }
 }
 

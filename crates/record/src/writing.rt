@@ -11,7 +11,7 @@ ghost use Rattle.record.specs.Ranges.{callNumber};
 ghost use Rattle.record.specs.Writing.{recordOf, writeNumber, writtenBy};
 use crate::calls::Call;
 use crate::calls::parts_of;
-use crate::calls::readings_size;
+use crate::calls::readings_behind;
 use crate::calls::record_size;
 use crate::fields::put_bytes;
 use crate::fields::put_fields;
@@ -42,11 +42,11 @@ pub fn put_record(call: Call, readings: &[u8], out: &mut [u8])
     let mark = parts.mark;
     let values = parts.values;
     let form = form_of(mark);
-    let length = readings_size(call);
-    put_parts(out, form, values, &readings[..length]);
+    let more = readings_behind(form.reading_width, values);
+    put_parts(out, form, values, &readings[..more]);
 }
 
-// Number 3 or 15, with nothing written; or 0, with the record written over the start of out.
+// The call's number or 15, with nothing written; or 0, with the record written over the start of out.
 pub fn write(call: Call, readings: &[u8], out: &mut [u8]) -> u32
     ensures { λ r. ⌜ (r ≡ writeNumber call (now (readings .entry)) (length (now (out .entry)))) × (now (out .exit) ≡ writtenBy call (now (readings .entry)) (now (out .entry))) ⌝ }
 {

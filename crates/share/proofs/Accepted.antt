@@ -9,7 +9,7 @@ use borrow.Author.Tests.{ltb-false, eqb-false, le-ltb, ne-eqb}
 use lib.ListN.{length}
 use Rattle.basis.specs.Sums.{sum, allAtMost}
 use Rattle.basis.proofs.Choice.{peel, peel-not}
-use Rattle.share.specs.Limits.{greatestTotal, greatestWeight, mostWeights}
+use Rattle.quantities.specs.Limits.{greatestTotal, greatestWeight, mostWeights}
 use Rattle.share.specs.Division.{wholeParts, remainders, give, shares, divisionNumber}
 use Rattle.share.proofs.Quotients.{length-parts, length-remainders, parts-at-most}
 

@@ -11,9 +11,9 @@ use Rattle.basis.specs.Choice.{pick}
 use Rattle.basis.specs.Numbers.{numbersOf, allBytesOf, written}
 use Rattle.basis.proofs.Choice.{pick-same}
 use Rattle.basis.proofs.Tables.{length-tab}
-use Rattle.share.specs.Limits.{greatestTotal, mostWeights}
+use Rattle.quantities.specs.Limits.{greatestTotal, mostWeights}
 use Rattle.share.specs.Division.{shares, divisionNumber, divided}
-use Rattle.share.specs.Buffers.{weightsOf, shareNumber, sharedBytes, Shares}
+use Rattle.share.specs.Buffers.{bufferWeights, shareNumber, sharedBytes, Shares}
 use Rattle.share.proofs.Accepted.{Accepted, accepted, enough}
 use Rattle.share.proofs.Laws.{length-shares}
 
@@ -21,9 +21,9 @@ use Rattle.share.proofs.Laws.{length-shares}
 written-whole : (old new : List ℕ) → length new ≡ length old → written old 0 new ≡ new
 written-whole old new e = rw (zero-add, e, drop-of-length-le old {i = length old} (omega arith)) (append-nil new)
 
-pub length-weightsOf : (buffer : List ℕ) → length (weightsOf buffer) ≡ length buffer / 4
-unfolding weightsOf
-length-weightsOf buffer = length-tab (λ i. Rattle.basis.specs.Numbers.numberAt 4 buffer (4 * i)) (length buffer / 4)
+pub length-bufferWeights : (buffer : List ℕ) → length (bufferWeights buffer) ≡ length buffer / 4
+unfolding bufferWeights
+length-bufferWeights buffer = length-tab (λ i. Rattle.basis.specs.Numbers.numberAt 4 buffer (4 * i)) (length buffer / 4)
 
 -- a length that is no multiple of 4, and too many weights
 pub odd-refused : (T : ℕ) (buffer old : List ℕ) → (length buffer % 4 ≡ 0 → ⊥) → Shares T buffer old 3 old
@@ -34,16 +34,16 @@ odd-refused T buffer old h =
 pub many-refused : (T : ℕ) (buffer old : List ℕ) → length buffer % 4 ≡ 0 → mostWeights < length buffer / 4 → Shares T buffer old 3 old
 unfolding shareNumber sharedBytes divisionNumber
 many-refused T buffer old h m =
-    let n = length-weightsOf buffer in
+    let n = length-bufferWeights buffer in
     let e : shareNumber T buffer (length old) ≡ 3 =
-    simp (eq-eqb (length buffer % 4) 0 h, ne-eqb (length (weightsOf buffer)) 0 (λ q. absurd (omega arith)), lt-ltb mostWeights (length (weightsOf buffer)) (omega arith))
+    simp (eq-eqb (length buffer % 4) 0 h, ne-eqb (length (bufferWeights buffer)) 0 (λ q. absurd (omega arith)), lt-ltb mostWeights (length (bufferWeights buffer)) (omega arith))
     (pick-same (ltb greatestTotal T) 3) in
     record { answer = sym e; amounts = rw e }
 
 -- a buffer of n weights, read as numbers
 module _ (T : ℕ) (buffer old : List ℕ) (n : ℕ) (h : length buffer ≡ 4 * n) (numbers : List ℕ) (e : numbers ≡ numbersOf 4 n buffer) where
-  same : weightsOf buffer ≡ numbers
-  unfolding weightsOf
+  same : bufferWeights buffer ≡ numbers
+  unfolding bufferWeights
   same = let d : length buffer / 4 ≡ n = omega arith in rw d (sym e)
 
   the-number : shareNumber T buffer (length old) ≡ divisionNumber T numbers (length old / 8)

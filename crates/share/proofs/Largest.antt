@@ -10,7 +10,7 @@ use lib.Dec.{eqb, leb}
 use lib.ListN.{length, getD, List·getD-eq-default}
 use Rattle.basis.specs.Choice.{pick}
 use Rattle.basis.specs.Sums.{greatest}
-use Rattle.share.specs.Division.{placeOf, largest}
+use Rattle.share.specs.Division.{firstPlaceOf, largest}
 
 -- no element is larger than the one at k, and each before k is smaller
 pub record Largest (r : List ℕ) (k : ℕ) : Type 0 where
@@ -37,34 +37,34 @@ greatest-stands (x ∷ y ∷ r) h =
     go false e rest = (suc (rest .0), omega (arith, rest .1), omega (arith, rest .2, leb-false (greatest (y ∷ r)) x e))
 
 -- where x stands at j, its first place is at most j, and x stands there
-place-of : (x : ℕ) (r : List ℕ) (j : ℕ) → j < length r → getD r j 0 ≡ x → (placeOf x r ≤ j) × (getD r (placeOf x r) 0 ≡ x)
-unfolding placeOf
-place-of x [] j h e = absurd (not-suc-le-zero h)
-place-of x (y ∷ r) zero h e = go (eqb y x) refl
+first-place-of : (x : ℕ) (r : List ℕ) (j : ℕ) → j < length r → getD r j 0 ≡ x → (firstPlaceOf x r ≤ j) × (getD r (firstPlaceOf x r) 0 ≡ x)
+unfolding firstPlaceOf
+first-place-of x [] j h e = absurd (not-suc-le-zero h)
+first-place-of x (y ∷ r) zero h e = go (eqb y x) refl
   where
-    go : (t : Bool) → eqb y x ≡ t → (pick t 0 (suc (placeOf x r)) ≤ 0) × (getD (y ∷ r) (pick t 0 (suc (placeOf x r))) 0 ≡ x)
+    go : (t : Bool) → eqb y x ≡ t → (pick t 0 (suc (firstPlaceOf x r)) ≤ 0) × (getD (y ∷ r) (pick t 0 (suc (firstPlaceOf x r))) 0 ≡ x)
     go true q = (zero-le, e)
     go false q = absurd (eqb-false y x q e)
-place-of x (y ∷ r) (suc j) h e = go (eqb y x) refl (place-of x r j (le-of-suc-le-suc h) e)
+first-place-of x (y ∷ r) (suc j) h e = go (eqb y x) refl (first-place-of x r j (le-of-suc-le-suc h) e)
   where
-    go : (t : Bool) → eqb y x ≡ t → (placeOf x r ≤ j) × (getD r (placeOf x r) 0 ≡ x) → (pick t 0 (suc (placeOf x r)) ≤ suc j) × (getD (y ∷ r) (pick t 0 (suc (placeOf x r))) 0 ≡ x)
+    go : (t : Bool) → eqb y x ≡ t → (firstPlaceOf x r ≤ j) × (getD r (firstPlaceOf x r) 0 ≡ x) → (pick t 0 (suc (firstPlaceOf x r)) ≤ suc j) × (getD (y ∷ r) (pick t 0 (suc (firstPlaceOf x r))) 0 ≡ x)
     go true q rest = (zero-le, eqb-true y x q)
     go false q rest = (omega (arith, rest .0), rest .1)
 
 -- an element before the first place of the greatest is smaller
-smaller : (r : List ℕ) (j : ℕ) → j < length r → j < placeOf (greatest r) r → getD r j 0 < greatest r
+smaller : (r : List ℕ) (j : ℕ) → j < length r → j < firstPlaceOf (greatest r) r → getD r j 0 < greatest r
 smaller r j h q = go (leb (greatest r) (getD r j 0)) refl
   where
     go : (t : Bool) → leb (greatest r) (getD r j 0) ≡ t → getD r j 0 < greatest r
     go true e =
-        absurd (omega (arith, place-of (greatest r) r j h (omega (arith, leb-true (greatest r) (getD r j 0) e, at-most-greatest r j)) .0))
+        absurd (omega (arith, first-place-of (greatest r) r j h (omega (arith, leb-true (greatest r) (getD r j 0) e, at-most-greatest r j)) .0))
     go false e = leb-false (greatest r) (getD r j 0) e
 
 pub largest-is : (r : List ℕ) → 0 < length r → Largest r (largest r)
 unfolding largest
 largest-is r h =
     let g = greatest-stands r h in
-    let p = place-of (greatest r) r (g .0) (g .1) (g .2) in
+    let p = first-place-of (greatest r) r (g .0) (g .1) (g .2) in
     record {
       within = omega (arith, p .0, g .1);
       most = λ j. omega (arith, p .1, at-most-greatest r j);

@@ -9,6 +9,7 @@ use native.Mathlib.Omega.{arith}
 use lib.ListN.{length, getD}
 use Rattle.basis.specs.Sums.{sum}
 use Rattle.share.specs.Division.{wholeParts, remainders, give, shares}
+use Rattle.share.specs.Promises.{SharesDivide}
 use Rattle.share.proofs.Quotients.{length-parts, length-remainders, part-at, remainder-at, parts-at-most, left-and-rest, remainder-below}
 use Rattle.share.proofs.Units.{Covered, Before, length-give, sum-give, some-element, given, given-before}
 
@@ -65,3 +66,15 @@ module _ (T : ℕ) (ws : List ℕ) (positive : 0 < sum ws) where
   -- a weight of 0 gets 0
   pub share-of-zero : (i : ℕ) → getD ws i 0 ≡ 0 → getD (shares T ws) i 0 ≡ 0
   share-of-zero i e = ⊎-elim (λ p. p ∙ rw (e, mul-zero T) (native.Mathlib.Nat.zero-div (sum ws))) (λ p. absurd (omega (arith, p .1, ap (λ w. T * w % sum ws) e, mul-zero T, zero-mod (sum ws), ap (λ n. n % sum ws) (mul-zero T)))) (share-at i)
+
+pub shares-divide : SharesDivide
+shares-divide T ws positive =
+    record {
+      one-for-each = length-shares T ws;
+      add-up = sum-shares T ws positive;
+      quotient-or-more = share-at T ws positive;
+      not-above = λ i. share-near T ws positive i .0;
+      not-below = λ i. share-near T ws positive i .1;
+      in-order = share-before T ws positive;
+      nothing-for-zero = share-of-zero T ws positive;
+    }

@@ -7,7 +7,7 @@ use lib.ListN.{length, getD, set}
 use Rattle.basis.specs.Choice.{pick}
 use Rattle.basis.specs.Sums.{sum, greatest, allAtMost}
 use Rattle.basis.specs.Numbers.{written}
-use Rattle.share.specs.Limits.{greatestTotal, greatestWeight, mostWeights}
+use Rattle.quantities.specs.Limits.{greatestTotal, greatestWeight, mostWeights}
 
 -- "each gets T·weight / W", rounded down
 unfoldable pub wholeParts : ℕ → ℕ → List ℕ → List ℕ
@@ -18,13 +18,13 @@ unfoldable pub remainders : ℕ → ℕ → List ℕ → List ℕ
 remainders T W weights = map (λ w. T * w % W) weights
 
 -- the first place at which x stands
-unfoldable pub placeOf : ℕ → List ℕ → ℕ
-placeOf x [] = 0
-placeOf x (y ∷ l) = pick (eqb y x) 0 (suc (placeOf x l))
+unfoldable pub firstPlaceOf : ℕ → List ℕ → ℕ
+firstPlaceOf x [] = 0
+firstPlaceOf x (y ∷ l) = pick (eqb y x) 0 (suc (firstPlaceOf x l))
 
 -- the place of the largest remainder, the lowest of several
 unfoldable pub largest : List ℕ → ℕ
-largest rest = placeOf (greatest rest) rest
+largest rest = firstPlaceOf (greatest rest) rest
 
 -- "the units left over go singly to the largest remainders, ties to the lower number": who has one is struck
 unfoldable pub give : ℕ → List ℕ → List ℕ → List ℕ

@@ -1,4 +1,4 @@
 -- Division by shares, as document 01 defines it.
-pub mod Limits
 pub mod Division
 pub mod Buffers
+pub mod Promises

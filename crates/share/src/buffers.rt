@@ -5,6 +5,7 @@ ghost use mathlib.Core.List.{_++_};
 ghost use lib.ListN.{length, drop};
 ghost use Rattle.basis.specs.Numbers.{numbersOf, allBytesOf, written};
 ghost use Rattle.share.specs.Buffers.{Shares};
+use quantities::MOST_WEIGHTS;
 
 // The numbers of four bytes each that the buffer holds, into the weights.
 pub(crate) fn read_weights(buffer: &[u8], weights: &mut [u64])
@@ -60,10 +61,10 @@ pub extern "C" fn share_divide(total: u64, weights: &[u8], amounts: &mut [u8]) -
         return 3;
     }
     let n = weights.len() / 4;
-    if crate::MOST_WEIGHTS < n {
+    if MOST_WEIGHTS < n {
         return 3;
     }
-    let mut numbers = [0u64; crate::MOST_WEIGHTS];
-    let mut parts = [0u64; crate::MOST_WEIGHTS];
+    let mut numbers = [0u64; MOST_WEIGHTS];
+    let mut parts = [0u64; MOST_WEIGHTS];
     divide_buffer(total, weights, amounts, &mut numbers[..n], &mut parts[..n])
 }

@@ -5,13 +5,8 @@ mod parts;
 ghost use mathlib.Core.Path.{_≡_};
 ghost use lib.ListN.{length};
 ghost use Rattle.share.specs.Division.{Divides, divisionNumber};
-
-// The largest total, the largest weight and the most weights that a division takes.
-pub const GREATEST_TOTAL: u64 = 6_000_000_000_000;
-
-pub const GREATEST_WEIGHT: u64 = 3_000_000;
-
-pub const MOST_WEIGHTS: usize = 64;
+use quantities::GREATEST_TOTAL;
+use quantities::MOST_WEIGHTS;
 
 // The number that a division into `room` amounts meets: 3, 13, 15 or 0.
 pub fn division_number(total: u64, weights: &[u64], room: usize) -> u32

@@ -4,8 +4,9 @@ ghost use mathlib.Core.Bool.{true};
 ghost use Prim.Native.Nat.{_+_, _-_, _≤_, _<_};
 ghost use lib.ListN.{length};
 ghost use Rattle.basis.specs.Sums.{sum, allAtMost};
-ghost use Rattle.share.specs.Limits.{greatestTotal, greatestWeight, mostWeights};
+ghost use Rattle.quantities.specs.Limits.{greatestTotal, greatestWeight, mostWeights};
 ghost use Rattle.share.specs.Division.{wholeParts, remainders, largest, give, shares, divisionNumber};
+use quantities::GREATEST_WEIGHT;
 
 // Whether each weight is in its range.
 pub(crate) fn in_range(weights: &[u64]) -> bool
@@ -13,7 +14,7 @@ pub(crate) fn in_range(weights: &[u64]) -> bool
 {
     let mut i = 0;
     while i < weights.len() {
-        if crate::GREATEST_WEIGHT < weights[i] {
+        if GREATEST_WEIGHT < weights[i] {
             return false;
         }
         i += 1;

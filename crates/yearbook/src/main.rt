@@ -8,6 +8,6 @@ fn main() {
     let mut output = [0u8; listing::LONGEST];
     let count = io::read_full(STDIN_FILENO, &mut input);
     let listed = listing::put_output(&input[..count], &mut output);
-    let length = listed.length;
-    io::write_all(STDOUT_FILENO, &output[..length]);
+    let size = listed.size;
+    io::write_all(STDOUT_FILENO, &output[..size]);
 }

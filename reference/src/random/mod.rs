@@ -108,7 +108,7 @@ fn at_the_limit(draft: &mut Draft) {
 fn pad(draft: &mut Draft, length: usize) {
     while draft.journal.len() < length {
         let missing = length - draft.journal.len();
-        if missing.is_multiple_of(4) {
+        if missing % 4 == 0 {
             draft.put(&Call::Close(890));
         } else {
             draft.put(&Call::Year(Year { nhrm: 720, nhmd: 120, ndhmd: 4 }));

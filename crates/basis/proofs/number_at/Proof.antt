@@ -18,36 +18,29 @@ Inv-loop s at width x₀ i₀ x i = (i ≤ width) × (x < 256 ^ (width - i)) × 
 abbrev μ-loop : tie.MeasureT-loop
 μ-loop s at width x₀ i₀ x i = i
 
--- src/lib.rt:14:5
 loop-holds : tie.Need-loop-holds Inv-loop μ-loop
 unfolding number
 loop-holds c =
     rw (sub-self) (omega arith, omega arith, refl)
 
--- src/lib.rt:15:9
 sub-i : tie.Need-sub-i Inv-loop μ-loop
 sub-i c = search needs
 
--- src/lib.rt:16:13
 mul-x : tie.Need-mul-x Inv-loop μ-loop
 mul-x c =
     let a = c .before .before .args in
     let i = c .before .loop .i in
     omega (arith, pow-le-pow-right {n = 256} (omega arith) {i = a .width - i} {j = 7} (omega arith))
 
--- src/lib.rt:16:25
 add-x : tie.Need-add-x Inv-loop μ-loop
 add-x c = search needs
 
--- src/lib.rt:16:23
 shared-slice-read-x : tie.Need-shared-slice-read-x Inv-loop μ-loop
 shared-slice-read-x c = search needs
 
--- src/lib.rt:16:23
 cast-x : tie.Need-cast-x Inv-loop μ-loop
 cast-x c = omega (arith, c .shared-slice-known .given (c .before .before .before .args .at + (c .before .before .loop .i - 1)))
 
--- src/lib.rt:16:13
 add-x-2 : tie.Need-add-x-2 Inv-loop μ-loop
 add-x-2 c =
     let a = c .before .before .before .args in
@@ -55,11 +48,9 @@ add-x-2 c =
     let b = c .shared-slice-known .given (a .at + (l .i - 1)) in
     omega (arith, digit-more (a .width - l .i) (l .x) (getD (now (a .s)) (a .at + (l .i - 1)) 0) (l .inv .1) (omega (arith, b)), pow-le-pow-right {n = 256} (omega arith) {i = suc (a .width - l .i)} {j = 8} (omega arith))
 
--- src/lib.rt:14:5
 loop-less : tie.Need-loop-less Inv-loop μ-loop
 loop-less c = search needs
 
--- src/lib.rt:14:5
 loop-again : tie.Need-loop-again Inv-loop μ-loop
 loop-again c =
     let a = c .before .before .before .args in
@@ -71,7 +62,6 @@ loop-again c =
       read-more (now (a .s)) (a .at) (a .width) (l .i) (l .x) (omega arith) (omega arith) (omega arith) (l .inv .2),
     )
 
--- src/lib.rt:8:1
 returns : tie.Need-returns Inv-loop μ-loop
 returns c =
     let a = c .before .before .args in

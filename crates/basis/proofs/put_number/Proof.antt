@@ -21,31 +21,24 @@ Inv-loop out₀ at width x y₀ i₀ out y i =
 abbrev μ-loop : tie.MeasureT-loop
 μ-loop out₀ at width x y₀ i₀ out y i = width - i
 
--- src/lib.rt:28:5
 loop-holds : tie.Need-loop-holds Inv-loop μ-loop
 loop-holds c = rw (add-zero, sub-zero) (omega arith, refl, refl)
 
--- src/lib.rt:29:23
 cast-out : tie.Need-cast-out Inv-loop μ-loop
 cast-out c = search needs
 
--- src/lib.rt:29:13
 add-out : tie.Need-add-out Inv-loop μ-loop
 add-out c = search needs
 
--- src/lib.rt:29:9
 slice-write-out : tie.Need-slice-write-out Inv-loop μ-loop
 slice-write-out c = search needs
 
--- src/lib.rt:31:9
 add-i : tie.Need-add-i Inv-loop μ-loop
 add-i c = search needs
 
--- src/lib.rt:28:5
 loop-less : tie.Need-loop-less Inv-loop μ-loop
 loop-less c = search needs
 
--- src/lib.rt:28:5
 loop-again : tie.Need-loop-again Inv-loop μ-loop
 unfolding bytesOf
 loop-again c =
@@ -61,11 +54,9 @@ loop-again c =
           ∙ l .inv .2,
     )
 
--- src/lib.rt:22:1
 same-length : tie.Need-same-length Inv-loop μ-loop
 same-length c = search needs
 
--- src/lib.rt:22:1
 returns : tie.Need-returns Inv-loop μ-loop
 unfolding bytesOf
 returns c =

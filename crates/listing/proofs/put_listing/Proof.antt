@@ -22,8 +22,8 @@ returns c =
     let p = c .before .before .put-run .ensures in
     lists-refused (listingOf (c .before .before .before .before .before .args .run)) (p .short) (now (c .before .before .before .before .before .args .out)) (omega (arith, as-long p))
 
-array-share-prefix-text : tie.Need-array-share-prefix-text
-array-share-prefix-text c = search needs
+array-share-prefix-whole : tie.Need-array-share-prefix-whole
+array-share-prefix-whole c = search needs
 
 slice-aggregate-put-text : tie.Need-slice-aggregate-put-text
 slice-aggregate-put-text c = front-length (c .before .before .before .before .put-run .ensures)
@@ -48,7 +48,7 @@ put-listing-spec =
     slice-aggregate-put-run
     put-run-requires
     returns
-    array-share-prefix-text
+    array-share-prefix-whole
     slice-aggregate-put-text
     put-text-requires
     same-length

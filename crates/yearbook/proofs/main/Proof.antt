@@ -32,7 +32,7 @@ array-share-prefix-output c =
 slice-aggregate-write-all : tie.Need-slice-aggregate-write-all
 slice-aggregate-write-all c =
     let p = c .before .before .put-output in
-    sym (length-take-le (p .result .length) (p .last .1 .0) (omega (arith, listed-fits (p .ensures), p .kept .1 .0)))
+    sym (length-take-le (p .result .size) (p .last .1 .0) (omega (arith, listed-fits (p .ensures), p .kept .1 .0)))
 
 write-all-requires : tie.Need-write-all-requires
 write-all-requires c κs = search needs

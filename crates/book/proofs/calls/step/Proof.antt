@@ -2,7 +2,7 @@
 use mathlib.Core.Path.{ap, _∙_}
 use borrow.Author.Needs.{needs}
 use denote.Ref.{now}
-use Rattle.book.specs.Changes.{settledOf}
+use Rattle.book.specs.Settlement.{settledOf}
 use Rattle.book.proofs.Settled.{decidedAt, step-law}
 use Rattle.book.proofs.calls.step.Statement.{statement}
 use Rattle.book.proofs.calls.step.Tie as tie

@@ -1,6 +1,6 @@
 -- `book::settlement::settle` meets its contract. Assumes nothing.
 use borrow.Author.Needs.{needs}
-use Rattle.book.specs.Changes.{settledOf}
+use Rattle.book.specs.Settlement.{settledOf}
 use Rattle.book.proofs.settlement.settle.Statement.{statement}
 use Rattle.book.proofs.settlement.settle.Tie as tie
 
@@ -28,20 +28,20 @@ with-unit-requires c κs = search needs
 enum-known-change-5 : tie.Need-enum-known-change-5
 enum-known-change-5 c = search needs
 
-begin-requires : tie.Need-begin-requires
-begin-requires c κs = search needs
+year-requires : tie.Need-year-requires
+year-requires c κs = search needs
 
 enum-known-change-6 : tie.Need-enum-known-change-6
 enum-known-change-6 c = search needs
 
-fix-book-requires : tie.Need-fix-book-requires
-fix-book-requires c κs = search needs
+fix-requires : tie.Need-fix-requires
+fix-requires c κs = search needs
 
 enum-known-change-7 : tie.Need-enum-known-change-7
 enum-known-change-7 c = search needs
 
-close-book-requires : tie.Need-close-book-requires
-close-book-requires c κs = search needs
+close-requires : tie.Need-close-requires
+close-requires c κs = search needs
 
 returns : tie.Need-returns
 unfolding settledOf
@@ -61,15 +61,15 @@ returns-4 c = rw (c .before .before .change4 .given .1) (c .with-unit .ensures)
 
 returns-5 : tie.Need-returns-5
 unfolding settledOf
-returns-5 c = rw (c .before .before .change5 .given .1, ← c .begin .ensures)
+returns-5 c = rw (c .before .before .change5 .given .1) (c .year .ensures)
 
 returns-6 : tie.Need-returns-6
 unfolding settledOf
-returns-6 c = rw (c .before .before .change6 .given .1) (c .fix-book .ensures)
+returns-6 c = rw (c .before .before .change6 .given .1) (c .fix .ensures)
 
 returns-7 : tie.Need-returns-7
 unfolding settledOf
-returns-7 c = rw (c .before .before .change7 .given .1) (c .close-book .ensures)
+returns-7 c = rw (c .before .before .change7 .given .1) (c .close .ensures)
 
 pub settle-spec : {M : Type 1} → statement M
 settle-spec =
@@ -83,11 +83,11 @@ settle-spec =
     enum-known-change-4
     with-unit-requires
     enum-known-change-5
-    begin-requires
+    year-requires
     enum-known-change-6
-    fix-book-requires
+    fix-requires
     enum-known-change-7
-    close-book-requires
+    close-requires
     returns
     returns-2
     returns-3

@@ -1,8 +1,8 @@
 -- `book::settlement::with_balance` meets its contract. Assumes nothing.
 use mathlib.Core.Path.{ap}
 use borrow.Author.Needs.{needs}
-use Rattle.book.specs.Changes.{accepted}
-use Rattle.book.specs.State.{withBalances}
+use Rattle.book.specs.Settlement.{accepted}
+use Rattle.state.specs.State.{withBalances}
 use Rattle.book.proofs.Stored.{behind}
 use Rattle.book.proofs.settlement.with_balance.Statement.{statement}
 use Rattle.book.proofs.settlement.with_balance.Tie as tie

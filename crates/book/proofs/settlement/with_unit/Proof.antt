@@ -1,8 +1,8 @@
 -- `book::settlement::with_unit` meets its contract. Assumes nothing.
 use mathlib.Core.Path.{ap}
 use borrow.Author.Needs.{needs}
-use Rattle.book.specs.Changes.{accepted}
-use Rattle.book.specs.State.{withUnits}
+use Rattle.book.specs.Settlement.{accepted}
+use Rattle.state.specs.State.{withUnits}
 use Rattle.book.proofs.Stored.{behind}
 use Rattle.book.proofs.settlement.with_unit.Statement.{statement}
 use Rattle.book.proofs.settlement.with_unit.Tie as tie

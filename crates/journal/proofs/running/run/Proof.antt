@@ -11,11 +11,12 @@ use denote.Ref.{now}
 use Rattle.record.specs.declared.calls.Call.{Call}
 use Rattle.record.specs.declared.reading.Read.the-variants.{Record}
 use Rattle.record.specs.Reading.{readAt, partOf}
-use Rattle.book.specs.declared.state.Book.{Book}
-use Rattle.book.specs.declared.changes.Change.{Change}
+use Rattle.state.specs.declared.kept.Book.{Book}
+use Rattle.decision.specs.declared.changes.Change.{Change}
 use Rattle.book.specs.Step.{stepOf}
-use Rattle.book.specs.Changes.{accepted, settledOf}
-use Rattle.journal.specs.declared.state.Tally.{Tally}
+use Rattle.book.specs.Settlement.{settledOf}
+use Rattle.close.proofs.CloseLaws.{refused-close}
+use Rattle.journal.specs.declared.outcome.Tally.{Tally}
 use Rattle.journal.specs.Tally.{tallied, runWith}
 use Rattle.journal.proofs.Underway.{Underway, begins, ends, settles, turn-fits, turn-to, turn-less}
 use Rattle.journal.proofs.running.run.Statement.{statement}
@@ -173,50 +174,63 @@ loop-again-4 c = turn (c .before .before .before .before) _ 0 _ (c .counted4 .re
 enum-known-change-5 : tie.Need-enum-known-change-5 Inv-loop μ-loop
 enum-known-change-5 c = search needs
 
-begin-requires : tie.Need-begin-requires Inv-loop μ-loop
-begin-requires c κs = search needs
+year-requires : tie.Need-year-requires Inv-loop μ-loop
+year-requires c κs = search needs
 
 counted-requires-5 : tie.Need-counted-requires-5 Inv-loop μ-loop
-counted-requires-5 c κs = fits (c .before .before .before .before .before .before .before .before .before .before .before .before .before)
+counted-requires-5 c κs = fits (c .before .before .before .before .before .before .before .before .before .before .before .before .before .before)
 
 loop-less-5 : tie.Need-loop-less-5 Inv-loop μ-loop
-loop-less-5 c = less (c .before .before .before .before .before .before .before .before .before .before .before .before .before .before) 0 (c .counted5 .result) (c .counted5 .ensures)
+loop-less-5 c = less (c .before .before .before .before .before .before .before .before .before .before .before .before .before .before .before) (c .before .before .year .result .number) (c .counted5 .result) (c .counted5 .ensures)
 
 loop-again-5 : tie.Need-loop-again-5 Inv-loop μ-loop
 unfolding settledOf
-loop-again-5 c = turn (c .before .before .before .before .before) _ 0 _ (c .counted5 .result) (c .before .before .before .change5 .given .1) (ap accepted (sym (c .before .begin .ensures))) (c .counted5 .ensures)
+loop-again-5 c = turn (c .before .before .before .before .before .before) _ (c .before .before .year .result .number) _ (c .counted5 .result) (c .before .before .before .before .change5 .given .1) (sym (c .before .before .year .ensures)) (c .counted5 .ensures)
 
 enum-known-change-6 : tie.Need-enum-known-change-6 Inv-loop μ-loop
 enum-known-change-6 c = search needs
 
-fix-book-requires : tie.Need-fix-book-requires Inv-loop μ-loop
-fix-book-requires c κs = search needs
+fix-requires : tie.Need-fix-requires Inv-loop μ-loop
+fix-requires c κs = search needs
 
 counted-requires-6 : tie.Need-counted-requires-6 Inv-loop μ-loop
 counted-requires-6 c κs = fits (c .before .before .before .before .before .before .before .before .before .before .before .before .before .before)
 
 loop-less-6 : tie.Need-loop-less-6 Inv-loop μ-loop
-loop-less-6 c = less (c .before .before .before .before .before .before .before .before .before .before .before .before .before .before .before) (c .before .before .fix-book .result .number) (c .counted6 .result) (c .counted6 .ensures)
+loop-less-6 c = less (c .before .before .before .before .before .before .before .before .before .before .before .before .before .before .before) (c .before .before .fix .result .number) (c .counted6 .result) (c .counted6 .ensures)
 
 loop-again-6 : tie.Need-loop-again-6 Inv-loop μ-loop
 unfolding settledOf
-loop-again-6 c = turn (c .before .before .before .before .before .before) _ (c .before .before .fix-book .result .number) _ (c .counted6 .result) (c .before .before .before .before .change6 .given .1) (sym (c .before .before .fix-book .ensures)) (c .counted6 .ensures)
+loop-again-6 c = turn (c .before .before .before .before .before .before) _ (c .before .before .fix .result .number) _ (c .counted6 .result) (c .before .before .before .before .change6 .given .1) (sym (c .before .before .fix .ensures)) (c .counted6 .ensures)
 
 enum-known-change-7 : tie.Need-enum-known-change-7 Inv-loop μ-loop
 enum-known-change-7 c = search needs
 
-close-book-requires : tie.Need-close-book-requires Inv-loop μ-loop
-close-book-requires c κs = search needs
+close-number-requires : tie.Need-close-number-requires Inv-loop μ-loop
+close-number-requires c κs = search needs
 
 counted-requires-7 : tie.Need-counted-requires-7 Inv-loop μ-loop
-counted-requires-7 c κs = fits (c .before .before .before .before .before .before .before .before .before .before .before .before .before .before)
+counted-requires-7 c κs = fits (c .before .before .before .before .before .before .before .before .before .before .before .before .before .before .before)
 
 loop-less-7 : tie.Need-loop-less-7 Inv-loop μ-loop
-loop-less-7 c = less (c .before .before .before .before .before .before .before .before .before .before .before .before .before .before .before) (c .before .before .close-book .result .number) (c .counted7 .result) (c .counted7 .ensures)
+loop-less-7 c = less (c .before .before .before .before .before .before .before .before .before .before .before .before .before .before .before .before) (c .before .before .close-number .result) (c .counted7 .result) (c .counted7 .ensures)
 
 loop-again-7 : tie.Need-loop-again-7 Inv-loop μ-loop
 unfolding settledOf
-loop-again-7 c = turn (c .before .before .before .before .before .before) _ (c .before .before .close-book .result .number) _ (c .counted7 .result) (c .before .before .before .before .change7 .given .1) (sym (c .before .before .close-book .ensures)) (c .counted7 .ensures)
+loop-again-7 c = turn (c .before .before .before .before .before .before .before) _ (c .before .before .close-number .result) _ (c .counted7 .result) (c .before .before .before .before .before .change7 .given .1) (refused-close (c .before .before .before .before .before .before .before .before .before .before .before .before .before .before .before .before .before .before .before .loop .book) (c .before .before .before .before .before .change7 .given .0 .0) (c .before .before .close-number .ensures) (c .before .if1 .taken)) (c .counted7 .ensures)
+
+close-requires : tie.Need-close-requires Inv-loop μ-loop
+close-requires c κs = search needs
+
+counted-requires-8 : tie.Need-counted-requires-8 Inv-loop μ-loop
+counted-requires-8 c κs = fits (c .before .before .before .before .before .before .before .before .before .before .before .before .before .before .before .before .before)
+
+loop-less-8 : tie.Need-loop-less-8 Inv-loop μ-loop
+loop-less-8 c = less (c .before .before .before .before .before .before .before .before .before .before .before .before .before .before .before .before .before .before) (c .before .before .close .result .number) (c .counted8 .result) (c .counted8 .ensures)
+
+loop-again-8 : tie.Need-loop-again-8 Inv-loop μ-loop
+unfolding settledOf
+loop-again-8 c = turn (c .before .before .before .before .before .before .before .before .before) _ (c .before .before .close .result .number) _ (c .counted8 .result) (c .before .before .before .before .before .before .before .change7 .given .1) (sym (c .before .before .close .ensures)) (c .counted8 .ensures)
 
 pub run-spec : {M : Type 1} → statement M
 run-spec =
@@ -262,17 +276,21 @@ run-spec =
     loop-less-4
     loop-again-4
     enum-known-change-5
-    begin-requires
+    year-requires
     counted-requires-5
     loop-less-5
     loop-again-5
     enum-known-change-6
-    fix-book-requires
+    fix-requires
     counted-requires-6
     loop-less-6
     loop-again-6
     enum-known-change-7
-    close-book-requires
+    close-number-requires
     counted-requires-7
     loop-less-7
-    loop-again-7)
+    loop-again-7
+    close-requires
+    counted-requires-8
+    loop-less-8
+    loop-again-8)

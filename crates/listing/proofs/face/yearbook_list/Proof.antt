@@ -16,13 +16,13 @@ same-length : tie.Need-same-length
 same-length c = search needs
 
 returns : tie.Need-returns
-returns c = journal-refused (now (c .before .before .before .before .before .before .before .before .args .journal)) (now (c .before .before .before .before .before .before .before .before .args .length)) (c .before .before .before .before .before .run .ensures) (c .before .before .before .put-listing .ensures) (c .if1 .taken)
+returns c = journal-refused (now (c .before .before .before .before .before .before .before .before .args .journal)) (now (c .before .before .before .before .before .before .before .before .args .written)) (c .before .before .before .before .before .run .ensures) (c .before .before .before .put-listing .ensures) (c .if1 .taken)
 
 same-length-2 : tie.Need-same-length-2
 same-length-2 c = search needs
 
 returns-2 : tie.Need-returns-2
-returns-2 c = journal-put (now (c .before .before .before .before .before .before .before .before .args .journal)) (now (c .before .before .before .before .before .before .before .before .args .length)) (c .before .before .before .before .before .run .ensures) (c .before .before .before .put-listing .ensures) (omega arith)
+returns-2 c = journal-put (now (c .before .before .before .before .before .before .before .before .args .journal)) (now (c .before .before .before .before .before .before .before .before .args .written)) (c .before .before .before .before .before .run .ensures) (c .before .before .before .put-listing .ensures) (omega arith)
 
 pub yearbook-list-spec : {M : Type 1} → statement M
 yearbook-list-spec =

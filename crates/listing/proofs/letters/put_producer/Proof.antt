@@ -4,11 +4,11 @@ use Prim.Native.Nat.{ℕ}
 use native.Mathlib.Omega.{arith}
 use borrow.Author.Needs.{needs}
 use denote.Ref.{now}
-use Rattle.listing.specs.declared.text.Line.{Line}
-use Rattle.listing.specs.Text.{textOf}
+use Rattle.text.specs.declared.Line.{Line}
+use Rattle.text.specs.Text.{textOf}
 use Rattle.listing.specs.Letters.{producerLine}
-use Rattle.listing.proofs.Putting.{puts-as}
-use Rattle.listing.proofs.Joining.{puts-no-line}
+use Rattle.text.proofs.Putting.{puts-as}
+use Rattle.text.proofs.Joining.{puts-no-line}
 use borrow.Author.Tests.{not-true, not-false}
 use Rattle.listing.proofs.letters.put_producer.Statement.{statement}
 use Rattle.listing.proofs.letters.put_producer.Tie as tie

@@ -5,11 +5,11 @@ use Prim.Native.Nat.{ℕ}
 use native.Mathlib.Omega.{arith}
 use borrow.Author.Needs.{needs}
 use denote.Ref.{now}
-use Rattle.listing.specs.declared.text.Amount.{Amount}
-use Rattle.listing.specs.Text.{lineOf}
-use Rattle.listing.specs.Letters.{less, settlementLine}
-use Rattle.listing.proofs.Putting.{puts-as}
-use Rattle.listing.proofs.Joining.{puts-no-line}
+use Rattle.text.specs.declared.Amount.{Amount}
+use Rattle.text.specs.Text.{lineOf, less}
+use Rattle.listing.specs.Letters.{settlementLine}
+use Rattle.text.proofs.Putting.{puts-as}
+use Rattle.text.proofs.Joining.{puts-no-line}
 use Rattle.listing.proofs.letters.put_settlement.Statement.{statement}
 use Rattle.listing.proofs.letters.put_settlement.Tie as tie
 

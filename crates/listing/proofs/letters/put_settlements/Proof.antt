@@ -4,18 +4,19 @@ use Prim.Native.Nat.{ℕ, _-_, _*_, _≤_}
 use native.Mathlib.Omega.{arith}
 use borrow.Author.Needs.{needs}
 use lib.ListN.{length}
-use Rattle.listing.specs.Text.{Puts, lineMost}
-use Rattle.listing.specs.Letters.{joined, settlementLineAt, settlementLines}
-use Rattle.listing.proofs.Joining.{puts-joined-none, puts-joined}
+use Rattle.quantities.specs.Limits.{consumers}
+use Rattle.text.specs.Text.{Puts, lineMost, joined}
+use Rattle.listing.specs.Letters.{settlementLineAt, settlementLines}
+use Rattle.text.proofs.Joining.{puts-joined-none, puts-joined}
 use Rattle.listing.proofs.letters.put_settlements.Statement.{statement}
 use Rattle.listing.proofs.letters.put_settlements.Tie as tie
 
 abbrev Inv-loop : tie.InvT-loop
-Inv-loop out₀ at consumers adjusted charges credits place₀ i₀ out place i =
-    (i ≤ 64) × (length out ≡ length out₀) × Puts (i * lineMost) (joined (settlementLineAt consumers adjusted charges credits) i) out₀ at place out
+Inv-loop out₀ at xs adjusted charges credits place₀ i₀ out place i =
+    (i ≤ consumers) × (length out ≡ length out₀) × Puts (i * lineMost) (joined (settlementLineAt xs adjusted charges credits) i) out₀ at place out
 
 abbrev μ-loop : tie.MeasureT-loop
-μ-loop out₀ at consumers adjusted charges credits place₀ i₀ out place i = 64 - i
+μ-loop out₀ at xs adjusted charges credits place₀ i₀ out place i = consumers - i
 
 loop-holds : tie.Need-loop-holds Inv-loop μ-loop
 loop-holds c =
@@ -64,7 +65,7 @@ loop-again c =
     let a = c .before .before .before .before .before .before .before .before .args in (
       omega arith,
       omega (arith, c .before .before .put-settlement .kept .0),
-      puts-joined (settlementLineAt (a .t3) (a .t4) (a .t5) (a .t6)) (l .i) (omega arith) (l .inv .2) (c .before .before .put-settlement .ensures) refl,
+      puts-joined (settlementLineAt (a .t3) (a .t4) (a .t5) (a .t6)) (l .i) (omega arith) (l .inv .2) (c .before .before .put-settlement .ensures),
     )
 
 same-length : tie.Need-same-length Inv-loop μ-loop
@@ -73,7 +74,7 @@ same-length c = omega arith
 returns : tie.Need-returns Inv-loop μ-loop
 unfolding settlementLines
 returns c =
-    let n : c .before .loop .i ≡ 64 = omega arith in
+    let n : c .before .loop .i ≡ consumers = omega arith in
     rw n at (c .before .loop .inv .2)
 
 pub put-settlements-spec : {M : Type 1} → statement M

@@ -4,41 +4,34 @@ use Prim.Native.Nat.{ℕ}
 use native.Mathlib.Omega.{arith}
 use borrow.Author.Needs.{needs}
 use denote.Ref.{now}
-use Rattle.listing.specs.declared.text.Line.{Line}
-use Rattle.listing.specs.Text.{textOf}
+use Rattle.text.specs.declared.Line.{Line}
+use Rattle.text.specs.Text.{textOf}
 use Rattle.listing.specs.Letters.{unitLine}
-use Rattle.listing.proofs.Putting.{puts-as}
-use Rattle.listing.proofs.Joining.{puts-no-line}
+use Rattle.text.proofs.Putting.{puts-as}
+use Rattle.text.proofs.Joining.{puts-no-line}
 use Rattle.listing.proofs.letters.put_unit.Statement.{statement}
 use Rattle.listing.proofs.letters.put_unit.Tie as tie
 
--- src/letters.rt:53:30
 enum-told : tie.Need-enum-told
 enum-told c = search needs
 
--- src/letters.rt:55:13
 enum-told-2 : tie.Need-enum-told-2
 enum-told-2 c = search needs
 
--- src/letters.rt:57:13
 numbers-requires : tie.Need-numbers-requires
 numbers-requires c κs = search needs
 
--- src/letters.rt:54:35
 put-line-requires : tie.Need-put-line-requires
 put-line-requires c κs = omega (arith, ap (λ (l : Line). l .count) (c .numbers .ensures))
 
--- src/letters.rt:41:1
 returns : tie.Need-returns
 unfolding unitLine
 returns c =
     rw (c .enum-told .given .1) (puts-no-line (now (c .before .before .before .args .out)) (c .before .before .before .args .at))
 
--- src/letters.rt:41:1
 same-length : tie.Need-same-length
 same-length c = search needs
 
--- src/letters.rt:41:1
 returns-2 : tie.Need-returns-2
 unfolding unitLine
 returns-2 c =

@@ -6,7 +6,7 @@ use native.Mathlib.Omega.{arith}
 use borrow.Author.Needs.{needs}
 use Rattle.listing.specs.Letters.{producerLines}
 use Rattle.listing.specs.Listing.{firmLines}
-use Rattle.listing.proofs.Putting.{puts-then, puts-as}
+use Rattle.text.proofs.Putting.{puts-then, puts-as}
 use Rattle.listing.proofs.lines.put_firm.Statement.{statement}
 use Rattle.listing.proofs.lines.put_firm.Tie as tie
 

@@ -2,10 +2,10 @@
 use mathlib.Core.Path.{ap}
 use native.Mathlib.Omega.{arith}
 use borrow.Author.Needs.{needs}
-use Rattle.listing.specs.declared.text.Line.{Line}
-use Rattle.listing.specs.Text.{textOf}
+use Rattle.text.specs.declared.Line.{Line}
+use Rattle.text.specs.Text.{textOf}
 use Rattle.listing.specs.Listing.{listingOf}
-use Rattle.listing.proofs.Putting.{puts-then, puts-as}
+use Rattle.text.proofs.Putting.{puts-then, puts-as}
 use Rattle.listing.proofs.lines.put_run.Statement.{statement}
 use Rattle.listing.proofs.lines.put_run.Tie as tie
 

@@ -3,9 +3,9 @@ use mathlib.Core.Path.{sym, ap}
 use native.Mathlib.Omega.{arith}
 use borrow.Author.Needs.{needs}
 use denote.Ref.{now}
-use Rattle.book.specs.declared.state.Stage.{Stage}
+use Rattle.state.specs.declared.kept.Stage.{Stage}
 use Rattle.listing.specs.Listing.{stageLines}
-use Rattle.listing.proofs.Putting.{puts-none, puts-then, puts-as, puts-within}
+use Rattle.text.proofs.Putting.{puts-none, puts-then, puts-as, puts-within}
 use Rattle.listing.proofs.lines.put_stage.Statement.{statement}
 use Rattle.listing.proofs.lines.put_stage.Tie as tie
 

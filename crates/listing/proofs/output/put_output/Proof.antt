@@ -3,19 +3,19 @@ use mathlib.Core.Path.{sym}
 use native.Mathlib.Omega.{arith}
 use borrow.Author.Needs.{needs}
 use denote.Ref.{now}
-use Rattle.listing.proofs.Answers.{output-cross, output-listing}
+use Rattle.listing.proofs.Answers.{output-too-long, output-listing}
 use Rattle.listing.proofs.output.put_output.Statement.{statement}
 use Rattle.listing.proofs.output.put_output.Tie as tie
 
-put-cross-requires : tie.Need-put-cross-requires
-put-cross-requires c κs = search needs
+put-too-long-requires : tie.Need-put-too-long-requires
+put-too-long-requires c κs = search needs
 
 same-length : tie.Need-same-length
 same-length c = search needs
 
 returns : tie.Need-returns
 returns c =
-    rw (output-cross (now (c .before .before .before .before .before .before .before .args .input)) (omega arith)) (c .before .before .put-cross .ensures)
+    rw (output-too-long (now (c .before .before .before .before .before .before .before .args .input)) (omega arith)) (c .before .before .put-too-long .ensures)
 
 run-requires : tie.Need-run-requires
 run-requires c κs = search needs
@@ -34,7 +34,7 @@ pub put-output-spec : {M : Type 1} → statement M
 put-output-spec =
     tie.close
     (tie.spec
-    put-cross-requires
+    put-too-long-requires
     same-length
     returns
     run-requires

@@ -1,6 +1,6 @@
 -- `plant::availability::times_minutes` meets its contract: ready minutes are at most the whole, which keeps product and quotient in width. Assumes nothing.
 use Rattle.plant.specs.Availability.{readyMinutes, wholeMinutes}
-use Rattle.plant.proofs.Quotients.{part-at-most}
+use Rattle.power.proofs.Quotients.{part-at-most}
 use Rattle.plant.proofs.Coefficient.{ready-at-most-whole, product-fits}
 use borrow.Author.Needs.{needs}
 use native.Mathlib.Omega.{arith}

@@ -3,7 +3,8 @@ use mathlib.Core.Path.{_≡_, refl, sym, ap, _∙_}
 use Prim.Native.Nat.{ℕ, _-_, _≤_}
 use lib.ListN.{length, take, getD, length-set}
 use lib.Seq.{take-all}
-use Rattle.plant.specs.Efficient.{units, efficientOffer, efficientOffers}
+use Rattle.quantities.specs.Limits.{units}
+use Rattle.plant.specs.Efficient.{efficientOffer, efficientOffers}
 use Rattle.basis.specs.Tables.{tabFrom}
 use Rattle.basis.proofs.Tables.{fill-more}
 use borrow.Author.Needs.{needs}

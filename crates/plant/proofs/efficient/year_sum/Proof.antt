@@ -1,7 +1,8 @@
 -- `plant::efficient::year_sum` meets its contract. The invariant: the sum so far is that of the units passed. Assumes nothing.
 use mathlib.Core.Path.{_≡_, refl, ap, _∙_}
 use Prim.Native.Nat.{_+_, _-_, _*_, _≤_}
-use Rattle.plant.specs.Efficient.{units, yearSum}
+use Rattle.quantities.specs.Limits.{units}
+use Rattle.plant.specs.Efficient.{yearSum}
 use Rattle.basis.specs.Sums.{sumUp}
 use Rattle.plant.proofs.Selection.{year-sum-more}
 use borrow.Author.Needs.{needs}

@@ -1,7 +1,7 @@
 -- `plant::offer::together` meets its contract. Assumes nothing.
 use mathlib.Core.Path.{sym, ap}
 use native.Mathlib.Nat.{min-eq-left, min-eq-right}
-use Rattle.plant.specs.Quantity.{kw}
+use Rattle.power.specs.Quantity.{kw}
 use borrow.Author.Needs.{needs}
 use native.Mathlib.Omega.{arith}
 use Rattle.plant.proofs.offer.together.Statement.{statement}

@@ -1,5 +1,5 @@
 -- `plant::offer::with_storage` meets its contract. Assumes nothing.
-use Rattle.plant.proofs.Told.{told-no, told-yes}
+use Rattle.basis.proofs.Answers.{answered-no, answered-yes}
 use Rattle.plant.proofs.offer.with_storage.Statement.{statement}
 use Rattle.plant.proofs.offer.with_storage.Tie as tie
 
@@ -7,7 +7,7 @@ is-complete-requires : tie.Need-is-complete-requires
 is-complete-requires c κs = tt
 
 returns : tie.Need-returns
-returns c = simp (told-no (c .before .is-complete .ensures) (c .if1 .taken))
+returns c = simp (answered-no (c .before .is-complete .ensures) (c .if1 .taken))
 
 maximum-power-requires : tie.Need-maximum-power-requires
 maximum-power-requires c κs = tt
@@ -31,7 +31,7 @@ returns-2 c =
       gen .limited .ensures,
       store .stored .ensures,
       most .maximum-power .ensures,
-      told-yes (most .before .before .is-complete .ensures) (most .before .if1 .left),
+      answered-yes (most .before .before .is-complete .ensures) (most .before .if1 .left),
     )
 
 pub with-storage-spec : {M : Type 1} → statement M

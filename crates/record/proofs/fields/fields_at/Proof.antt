@@ -9,33 +9,34 @@ use borrow.Author.Needs.{needs}
 use lib.ListN.{length, getD, take, drop, length-set}
 use denote.Ref.{now}
 use Rattle.basis.proofs.Numbers.{number-at-below}
-use Rattle.basis.proofs.Sums.{all-at-most}
+use Rattle.basis.proofs.Sums.{sum-next, all-at-most}
 use Rattle.basis.specs.Numbers.{numberAt}
 use Rattle.basis.specs.Sums.{sum}
 use Rattle.record.specs.Fields.{decode}
-use Rattle.record.proofs.Turns.{sum-more, decode-more, decode-end}
+use Rattle.record.specs.Forms.{mostFields, widest}
+use Rattle.record.proofs.Turns.{decode-more, decode-end}
 use Rattle.record.proofs.fields.fields_at.Statement.{statement}
 use Rattle.record.proofs.fields.fields_at.Tie as tie
 
 abbrev Inv-loop : tie.InvT-loop
 Inv-loop s at widths values₀ place₀ i₀ values place i =
-    (i ≤ 9) × (length widths ≡ 9) × (length values ≡ 9) × (place + sum (drop i widths) ≡ at + sum widths) × (take i values ++ decode (drop i widths) (drop place s) ≡ decode widths (drop at s))
+    (i ≤ mostFields) × (length widths ≡ mostFields) × (length values ≡ mostFields) × (place + sum (drop i widths) ≡ at + sum widths) × (take i values ++ decode (drop i widths) (drop place s) ≡ decode widths (drop at s))
 
 abbrev μ-loop : tie.MeasureT-loop
-μ-loop s at widths values₀ place₀ i₀ values place i = 9 - i
+μ-loop s at widths values₀ place₀ i₀ values place i = mostFields - i
 
 number-at-requires : tie.Need-number-at-requires Inv-loop μ-loop
 number-at-requires c κs =
     let a = c .before .before .before .args in
     let l = c .before .loop in
-    omega (arith, all-at-most 4 (a .t3) (c .before .before .before .pre .0) (l .i), sum-more (a .t3) (l .i) (omega arith))
+    omega (arith, all-at-most widest (a .t3) (c .before .before .before .pre .0) (l .i), sum-next (a .t3) (l .i) (omega arith))
 
 cast-values : tie.Need-cast-values Inv-loop μ-loop
 cast-values c =
     let a = c .before .before .before .before .args in
     let l = c .before .before .loop in
     let w = getD (a .t3) (l .i) 0 in
-    let p : w ≤ 4 = omega (arith, all-at-most 4 (a .t3) (c .before .before .before .before .pre .0) (l .i)) in
+    let p : w ≤ widest = omega (arith, all-at-most widest (a .t3) (c .before .before .before .before .pre .0) (l .i)) in
     let b : numberAt w (now (a .s)) (l .place) < 256 ^ w = number-at-below w (now (a .s)) (l .place) (λ k. omega (arith, c .before .before .before .shared-slice-known .given k)) in
     omega (arith, c .number-at .ensures, pow-le-pow-right {n = 256} (omega arith) p)
 
@@ -43,13 +44,13 @@ add-place : tie.Need-add-place Inv-loop μ-loop
 add-place c =
     let a = c .before .before .before .before .args in
     let l = c .before .before .loop in
-    omega (arith, sum-more (a .t3) (l .i) (omega arith))
+    omega (arith, sum-next (a .t3) (l .i) (omega arith))
 
 loop-again : tie.Need-loop-again Inv-loop μ-loop
 loop-again c =
     let a = c .before .before .before .before .args in
     let l = c .before .before .loop in
-    let m = sum-more (a .t3) (l .i) (omega arith) in (
+    let m = sum-next (a .t3) (l .i) (omega arith) in (
       omega arith,
       l .inv .1,
       length-set (l .values) (l .i) (c .number-at .result) ∙ l .inv .2,

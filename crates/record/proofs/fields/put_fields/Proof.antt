@@ -7,37 +7,39 @@ use native.Mathlib.Omega.{arith}
 use borrow.Author.Needs.{needs}
 use lib.ListN.{length, getD, drop}
 use Rattle.basis.proofs.Numbers.{written-none}
+use Rattle.basis.proofs.Sums.{sum-next}
 use Rattle.basis.specs.Numbers.{written}
 use Rattle.basis.specs.Sums.{sum}
 use Rattle.record.specs.Fields.{encode}
-use Rattle.record.proofs.Turns.{sum-more, encode-more, encode-end}
+use Rattle.record.specs.Forms.{mostFields}
+use Rattle.record.proofs.Turns.{encode-more, encode-end}
 use Rattle.record.proofs.fields.put_fields.Statement.{statement}
 use Rattle.record.proofs.fields.put_fields.Tie as tie
 
 abbrev Inv-loop : tie.InvT-loop
 Inv-loop out₀ at widths values place₀ i₀ out place i =
-    (i ≤ 9) × (length widths ≡ 9) × (length values ≡ 9) × (length out ≡ length out₀) × (place + sum (drop i widths) ≡ at + sum widths) × (written out place (encode (drop i widths) (drop i values)) ≡ written out₀ at (encode widths values))
+    (i ≤ mostFields) × (length widths ≡ mostFields) × (length values ≡ mostFields) × (length out ≡ length out₀) × (place + sum (drop i widths) ≡ at + sum widths) × (written out place (encode (drop i widths) (drop i values)) ≡ written out₀ at (encode widths values))
 
 abbrev μ-loop : tie.MeasureT-loop
-μ-loop out₀ at widths values place₀ i₀ out place i = 9 - i
+μ-loop out₀ at widths values place₀ i₀ out place i = mostFields - i
 
 put-number-requires : tie.Need-put-number-requires Inv-loop μ-loop
 put-number-requires c κs =
     let a = c .before .before .before .before .args in
     let l = c .before .before .loop in
-    omega (arith, sum-more (a .t3) (l .i) (omega arith))
+    omega (arith, sum-next (a .t3) (l .i) (omega arith))
 
 add-place : tie.Need-add-place Inv-loop μ-loop
 add-place c =
     let a = c .before .before .before .before .before .before .before .args in
     let l = c .before .before .before .before .before .loop in
-    omega (arith, sum-more (a .t3) (l .i) (omega arith))
+    omega (arith, sum-next (a .t3) (l .i) (omega arith))
 
 loop-again : tie.Need-loop-again Inv-loop μ-loop
 loop-again c =
     let a = c .before .before .before .before .before .before .before .args in
     let l = c .before .before .before .before .before .loop in
-    let m = sum-more (a .t3) (l .i) (omega arith) in
+    let m = sum-next (a .t3) (l .i) (omega arith) in
     let w = getD (a .t3) (l .i) 0 in
     let p : l .place + w ≤ length (l .out) = omega (arith, m) in
     let e = c .before .before .put-number .ensures in (

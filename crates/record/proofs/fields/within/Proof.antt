@@ -7,16 +7,17 @@ use borrow.Author.Needs.{needs}
 use borrow.Author.Tests.{le-leb, lt-leb}
 use lib.ListN.{length, drop}
 use Rattle.record.specs.Fields.{withinAll}
+use Rattle.record.specs.Forms.{mostFields}
 use Rattle.record.proofs.Turns.{within-out, within-in, within-end}
 use Rattle.record.proofs.fields.within.Statement.{statement}
 use Rattle.record.proofs.fields.within.Tie as tie
 
 abbrev Inv-loop : tie.InvT-loop
 Inv-loop least greatest values i₀ i =
-    (i ≤ 9) × (length least ≡ 9) × (length greatest ≡ 9) × (length values ≡ 9) × (withinAll (drop i least) (drop i greatest) (drop i values) ≡ withinAll least greatest values)
+    (i ≤ mostFields) × (length least ≡ mostFields) × (length greatest ≡ mostFields) × (length values ≡ mostFields) × (withinAll (drop i least) (drop i greatest) (drop i values) ≡ withinAll least greatest values)
 
 abbrev μ-loop : tie.MeasureT-loop
-μ-loop least greatest values i₀ i = 9 - i
+μ-loop least greatest values i₀ i = mostFields - i
 
 returns : tie.Need-returns Inv-loop μ-loop
 returns c =

@@ -7,7 +7,7 @@ use Rattle.record.specs.Forms.{formOf}
 use Rattle.record.specs.Ranges.{fieldsInRange, callNumber}
 use Rattle.record.specs.declared.calls.Parts.{Parts}
 use Rattle.record.specs.declared.forms.Form.{Form}
-use Rattle.record.proofs.Told.{told-yes, told-no}
+use Rattle.basis.proofs.Answers.{answered-yes, answered-no}
 use Rattle.record.proofs.ranges.call_number.Statement.{statement}
 use Rattle.record.proofs.ranges.call_number.Tie as tie
 
@@ -20,17 +20,17 @@ fields w =
 
 returns : tie.Need-returns
 unfolding callNumber
-returns c = rw (told-no (fields (c .before)) (c .if1 .taken))
+returns c = rw (answered-no (fields (c .before)) (c .if1 .taken))
 
 returns-2 : tie.Need-returns-2
 unfolding callNumber
 returns-2 c =
-    rw (told-yes (fields (c .before .before .before)) (c .before .before .if1 .left), told-no (c .before .rest-in-range .ensures) (c .if2 .taken))
+    rw (answered-yes (fields (c .before .before .before)) (c .before .before .if1 .left), answered-no (c .before .rest-in-range .ensures) (c .if2 .taken))
 
 returns-3 : tie.Need-returns-3
 unfolding callNumber
 returns-3 c =
-    rw (told-yes (fields (c .before .before .before)) (c .before .before .if1 .left), told-yes (c .before .rest-in-range .ensures) (c .if2 .left))
+    rw (answered-yes (fields (c .before .before .before)) (c .before .before .if1 .left), answered-yes (c .before .rest-in-range .ensures) (c .if2 .left))
 
 pub call-number-spec : {M : Type 1} → statement M
 call-number-spec =

@@ -3,7 +3,7 @@
 use native.Mathlib.Omega.{arith}
 use borrow.Author.Tests.{ne-eqb}
 use Rattle.record.specs.Ranges.{usesOf}
-use Rattle.record.proofs.Told.{in-between, below-range, above-range}
+use Rattle.basis.proofs.Answers.{in-between, below-range, above-range}
 use Rattle.record.proofs.ranges.uses_of.Statement.{statement}
 use Rattle.record.proofs.ranges.uses_of.Tie as tie
 

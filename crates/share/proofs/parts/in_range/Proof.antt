@@ -8,7 +8,7 @@ use borrow.Author.Needs.{needs}
 use lib.ListN.{length, getD}
 use denote.Ref.{now}
 use Rattle.basis.proofs.Sums.{at-most-all, not-all-at-most}
-use Rattle.share.specs.Limits.{greatestWeight}
+use Rattle.quantities.specs.Limits.{greatestWeight}
 use Rattle.share.proofs.parts.in_range.Statement.{statement}
 use Rattle.share.proofs.parts.in_range.Tie as tie
 

@@ -9,7 +9,7 @@ use lib.ListN.{length, drop}
 use denote.Ref.{now}
 use Rattle.basis.specs.Sums.{sum}
 use Rattle.basis.proofs.Sums.{sum-next, sum-done, sum-at-most, all-at-most}
-use Rattle.share.specs.Limits.{greatestWeight}
+use Rattle.quantities.specs.Limits.{greatestWeight}
 use Rattle.share.proofs.parts.sum_of.Statement.{statement}
 use Rattle.share.proofs.parts.sum_of.Tie as tie
 

@@ -12,7 +12,7 @@ use lib.Seq.{take-all}
 use denote.Ref.{now}
 use Rattle.basis.specs.Sums.{sum}
 use Rattle.basis.proofs.Sums.{sum-nil, all-at-most}
-use Rattle.share.specs.Limits.{greatestTotal, greatestWeight}
+use Rattle.quantities.specs.Limits.{greatestTotal, greatestWeight}
 use Rattle.share.specs.Division.{wholeParts, remainders}
 use Rattle.share.proofs.Lists.{fill-next}
 use Rattle.share.proofs.Quotients.{length-parts, length-remainders, part-at, remainder-at, parts-at-most, left-next}

@@ -1,0 +1,127 @@
+-- The close: charges fit, figures by consumer, and what the division of the charges leaves.
+use mathlib.Core.Path.{_≡_, refl, sym, ap, _∙_}
+use mathlib.Core.Bool.{Bool, true, false}
+use mathlib.Core.List.{List, [], map}
+use Prim.Native.Nat.{ℕ, zero, suc, _-_, _*_, _^_, _≤_, _<_, zero-le}
+use native.Mathlib.Nat.{mul-le-mul}
+use native.Mathlib.Omega.{arith}
+use borrow.Author.Tests.{eqb-true, eqb-false, ne-eqb}
+use lib.Dec.{ltb, eqb}
+use lib.ListN.{length, getD, replicate, length-map, List·getD-map}
+use Rattle.basis.specs.Choice.{pick}
+use Rattle.basis.specs.Sums.{sum, allAtMost}
+use Rattle.basis.specs.Tables.{tab}
+use Rattle.basis.proofs.Sums.{all-at-most, sumUp-at-most, sum-zeros}
+use Rattle.basis.proofs.Tables.{tab-same, sum-tab}
+use Rattle.share.specs.Division.{Divides, divisionNumber, shares}
+use Rattle.quantities.specs.Limits.{greatestPower, greatestPrice, consumers}
+use Rattle.state.specs.declared.kept.Declaration.{Declaration}
+use Rattle.state.specs.declared.kept.Declaration.the-variants.{Undeclared, Declared}
+use Rattle.state.specs.declared.kept.Consumer.{Consumer}
+use Rattle.state.specs.declared.kept.CloseFigures.{CloseFigures}
+use Rattle.record.specs.Ranges.{callNumber}
+use Rattle.record.specs.declared.calls.Call.the-variants as call
+use Rattle.record.proofs.Ranged.{close-ranged}
+use Rattle.state.specs.declared.kept.Stage.{Stage}
+use Rattle.state.specs.declared.kept.Stage.the-variants.{Firm}
+use Rattle.state.specs.declared.kept.Book.{Book}
+use Rattle.state.specs.State.{freshConsumer, stageNumber, staged}
+use Rattle.fix.specs.Fix.{weightsOf}
+use Rattle.close.specs.Close.{adjustedOf, adjustedIn, surplusBy, chargeBy, surplusesIn, chargesIn, creditsOf, undistributedOf, closeRest, closeNumberBy, closeNumber, figuresOf, closeOf}
+use Rattle.basis.proofs.Choice.{peel-not, handed-on}
+use Rattle.basis.proofs.Filling.{tab-map}
+use Rattle.fix.proofs.DivisionLaws.{accepted, refused, whole}
+
+-- kW in range times P
+pub priced-at-most : (p x : ℕ) → x ≤ greatestPower → p ≤ greatestPrice → x * p ≤ greatestPower * greatestPrice
+priced-at-most p x h k = mul-le-mul {n₂ = greatestPower} {m₂ = greatestPrice} h k
+
+charge-at-most : (p dfa : ℕ) (x : Declaration) → dfa ≤ greatestPower → p ≤ greatestPrice → chargeBy p dfa x ≤ greatestPower * greatestPrice * 12
+charge-at-most p dfa Undeclared h k = zero-le
+charge-at-most p dfa (Declared f) h k = go (ltb (100 * f .d) (98 * f .a))
+  where
+    go : (t : Bool) → pick t ((dfa - f .df) * p * 12) 0 ≤ greatestPower * greatestPrice * 12
+    go true = omega (arith, priced-at-most p (dfa - f .df) (omega arith) k)
+    go false = zero-le
+
+-- the charges of all consumers fit 64 bits
+pub charges-fit : (p : ℕ) (adjusted : List ℕ) (xs : List Consumer) → allAtMost greatestPower adjusted ≡ true → p ≤ greatestPrice → sum (tab (λ i. chargeBy p (getD adjusted i 0) (getD xs i freshConsumer .declaration)) consumers) < 2 ^ 64
+charges-fit p adjusted xs e k =
+    let f : ℕ → ℕ = λ i. chargeBy p (getD adjusted i 0) (getD xs i freshConsumer .declaration) in
+    omega (arith, sum-tab f consumers, sumUp-at-most (greatestPower * greatestPrice * 12) f consumers (λ i _. charge-at-most p (getD adjusted i 0) (getD xs i freshConsumer .declaration) (all-at-most greatestPower adjusted e i) k))
+
+pub length-adjusted : (dmp : ℕ) (xs : List Consumer) → length (adjustedIn dmp xs) ≡ length xs
+unfolding adjustedIn
+length-adjusted dmp xs = length-map xs (adjustedOf dmp (sum (weightsOf xs)))
+
+-- DFA of one consumer
+pub adjusted-at : (dmp total : ℕ) (xs : List Consumer) (i : ℕ) → total ≡ sum (weightsOf xs) → adjustedOf dmp total (getD xs i freshConsumer) ≡ getD (adjustedIn dmp xs) i 0
+unfolding adjustedIn
+adjusted-at dmp total xs i e =
+    ap (λ t. adjustedOf dmp t (getD xs i freshConsumer)) e
+    ∙ sym (List·getD-map (adjustedOf dmp (sum (weightsOf xs))) xs i freshConsumer)
+
+-- what is found from each consumer's DFA and declaration
+module _ (dmp : ℕ) (adjusted : List ℕ) (xs : List Consumer) (e : adjusted ≡ adjustedIn dmp xs) (n : length xs ≡ consumers) where
+  by-consumer : (g : ℕ → Declaration → ℕ) → tab (λ i. g (getD adjusted i 0) (getD xs i freshConsumer .declaration)) consumers ≡ map (λ x. g (adjustedOf dmp (sum (weightsOf xs)) x) (x .declaration)) xs
+  unfolding adjustedIn
+  by-consumer g =
+      let h = adjustedOf dmp (sum (weightsOf xs)) in
+      tab-same (λ i. g (getD adjusted i 0) (getD xs i freshConsumer .declaration)) (λ i. g (h (getD xs i freshConsumer)) (getD xs i freshConsumer .declaration)) consumers
+      (λ i _. ap (λ dfa. g dfa (getD xs i freshConsumer .declaration)) (ap (λ (l : List ℕ). getD l i 0) e ∙ List·getD-map h xs i freshConsumer))
+      ∙ tab-map (λ x. g (h x) (x .declaration)) xs freshConsumer consumers n
+
+  pub charges-by-consumer : (p : ℕ) → tab (λ i. chargeBy p (getD adjusted i 0) (getD xs i freshConsumer .declaration)) consumers ≡ chargesIn p dmp xs
+  unfolding chargesIn
+  charges-by-consumer p = by-consumer (chargeBy p)
+
+  pub surpluses-by-consumer : tab (λ i. surplusBy (getD adjusted i 0) (getD xs i freshConsumer .declaration)) consumers ≡ surplusesIn dmp xs
+  unfolding surplusesIn
+  surpluses-by-consumer = by-consumer surplusBy
+
+-- the division of the charges by the positive ADF
+module _ (T : ℕ) (ws new : List ℕ) (number : ℕ) (full : length ws ≡ consumers) (d : Divides T ws (replicate consumers 0) number new) where
+  pub credits : new ≡ creditsOf T ws
+  unfolding creditsOf
+  credits = go (eqb (divisionNumber T ws consumers) 0) refl
+    where
+      go : (t : Bool) → eqb (divisionNumber T ws consumers) 0 ≡ t → new ≡ pick t (shares T ws) (replicate consumers 0)
+      go true e = accepted T ws new number full d (d .answer ∙ eqb-true _ 0 e)
+      go false e = refused T ws new number full d (λ q. eqb-false _ 0 e (sym (d .answer) ∙ q))
+
+  -- what is not credited is undistributed
+  pub undistributed : (sum new ≤ T) × (T - sum new ≡ undistributedOf T ws)
+  unfolding undistributedOf
+  undistributed = go (eqb (divisionNumber T ws consumers) 0) refl
+    where
+      go : (t : Bool) → eqb (divisionNumber T ws consumers) 0 ≡ t → (sum new ≤ T) × (T - sum new ≡ pick t 0 T)
+      go true e = let s = whole T ws new number full d (d .answer ∙ eqb-true _ 0 e) in (omega arith, omega arith)
+      go false e = let s : sum new ≡ 0 = ap sum (refused T ws new number full d (λ q. eqb-false _ 0 e (sym (d .answer) ∙ q))) ∙ sum-zeros consumers in (omega arith, omega arith)
+
+-- what is found one after the other makes the figures of the close
+pub figures-with : (p dmp : ℕ) (xs : List Consumer) (adjusted charges surpluses shared : List ℕ) (charged credited rest : ℕ)
+    → adjusted ≡ adjustedIn dmp xs → charges ≡ chargesIn p dmp xs → surpluses ≡ surplusesIn dmp xs
+    → charged ≡ sum charges → shared ≡ creditsOf charged surpluses → credited ≡ sum shared → rest ≡ undistributedOf charged surpluses
+    → _≡_ {A = CloseFigures} (record { adjusted = adjusted; charges = charges; credits = shared; charged = charged; credited = credited; undistributed = rest }) (figuresOf p dmp xs)
+unfolding figuresOf
+figures-with p dmp xs adjusted charges surpluses shared charged credited rest a c s t h r u = rw (u, r, h, t, s, c, a)
+
+-- a close that is accepted has its price in range and no DFA above the greatest
+pub record AcceptedClose (dmp : ℕ) (xs : List Consumer) (p : ℕ) : Type 0 where
+  pub price : p ≤ greatestPrice
+  pub within : allAtMost greatestPower (adjustedIn dmp xs) ≡ true
+
+pub accepted-close : (stage : Stage) (dmp : ℕ) (xs : List Consumer) (p : ℕ) → closeNumberBy stage dmp xs p ≡ 0 → AcceptedClose dmp xs p
+unfolding closeNumberBy
+accepted-close stage dmp xs p e =
+    let a = handed-on (callNumber (call.Close p) []) (staged Firm stage (closeRest dmp xs)) e in
+    let b = peel-not (eqb (stageNumber stage) (stageNumber Firm)) 3 (closeRest dmp xs) (a .1) in
+    record {
+      price = close-ranged p [] (a .0) .most;
+      within = peel-not (allAtMost greatestPower (adjustedIn dmp xs)) 13 0 (b .1) .0;
+    }
+
+-- a close that is refused returns the old book
+pub refused-close : (b : Book) (p : ℕ) {number : ℕ} → number ≡ closeNumber b p → (number ≡ 0 → ⊥) → closeOf b p ≡ record { number = number; book = b }
+unfolding closeOf
+refused-close b p {number} e h = rw (← e, ne-eqb number 0 h)

@@ -1,0 +1,2 @@
+-- Laws of the close.
+pub mod CloseLaws

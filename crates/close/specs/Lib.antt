@@ -1,0 +1,2 @@
+-- The close, as document 01 defines it.
+pub mod Close

@@ -1,0 +1,3 @@
+-- Laws of the fix, and what it takes from the division's promise.
+pub mod DivisionLaws
+pub mod FixLaws

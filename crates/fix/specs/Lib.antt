@@ -1,0 +1,2 @@
+-- The fix, as document 01 defines it.
+pub mod Fix

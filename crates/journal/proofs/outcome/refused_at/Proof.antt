@@ -1,0 +1,19 @@
+-- `journal::refused_at` meets its contract. Assumes nothing.
+use borrow.Author.Needs.{needs}
+use Rattle.journal.proofs.outcome.refused_at.Statement.{statement}
+use Rattle.journal.proofs.outcome.refused_at.Tie as tie
+
+enum-told : tie.Need-enum-told
+enum-told c = search needs
+
+enum-known-first : tie.Need-enum-known-first
+enum-known-first c = search needs
+
+returns : tie.Need-returns
+returns c = rw (c .enum-told .given .1)
+
+returns-2 : tie.Need-returns-2
+returns-2 c = rw (c .before .first .given .1)
+
+pub refused-at-spec : {M : Type 1} → statement M
+refused-at-spec = tie.close (tie.spec enum-told enum-known-first returns returns-2)

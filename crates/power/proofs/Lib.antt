@@ -1,0 +1,4 @@
+-- Laws of tests and maximum power.
+pub mod Readings
+pub mod Quotients
+pub mod Accepted

@@ -1,0 +1,2 @@
+-- What a listing or a screen asks of a book.
+pub mod Questions

@@ -1,0 +1,23 @@
+// Level Year: what the book of a year keeps, a fresh book, and the stages by their numbers.
+mod blank; // blank.rt: a fresh book
+mod kept; // kept.rt: what the book keeps
+mod stages; // stages.rt: the stages by their numbers
+
+pub use blank::fresh;
+pub use kept::Book;
+pub use kept::CELLS;
+pub use kept::CloseFigures;
+pub use kept::Consumer;
+pub use kept::Declaration;
+pub use kept::Enrolment;
+pub use kept::Entry;
+pub use kept::Figures;
+pub use kept::Reading;
+pub use kept::Reply;
+pub use kept::Stage;
+pub use kept::Unit;
+pub use stages::BLANK;
+pub use stages::CLOSED;
+pub use stages::FIRM;
+pub use stages::GATHERING;
+pub use stages::stage_number;

@@ -1,0 +1,2 @@
+-- Definitions of text in a buffer.
+pub mod Text
