@@ -1,3 +1,2 @@
--- Laws of the book.
-pub mod Stored
-pub mod Settled
+-- Laws of the year.
+pub mod YearLaws

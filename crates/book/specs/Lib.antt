@@ -1,4 +1,4 @@
--- Any call on a book, lists of calls, and the steps by which a call is settled.
+-- The year, any call on a book, and lists of calls.
+pub mod Year
 pub mod Step
 pub mod Lists
-pub mod Settlement

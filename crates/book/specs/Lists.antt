@@ -3,7 +3,7 @@ use mathlib.Core.List.{List, [], _∷_}
 use Prim.Native.Nat.{ℕ}
 use lib.Dec.{eqb}
 use Rattle.basis.specs.Choice.{pick}
-use Rattle.record.specs.declared.calls.Call.{Call}
+use Rattle.table.specs.declared.calls.Call.{Call}
 use Rattle.state.specs.declared.kept.Book.{Book}
 use Rattle.state.specs.declared.kept.Reply.{Reply}
 use Rattle.book.specs.Step.{stepOf}

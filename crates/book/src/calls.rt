@@ -1,38 +1,42 @@
 // A function for each call, and one for any.
 ghost use mathlib.Core.Path.{_≡_};
-ghost use Rattle.decision.specs.Gathering.{unitOf, testReply, availabilityReply, declareOf};
-ghost use Rattle.decision.specs.Firm.{commitOf, releaseOf, meterOf};
+ghost use mathlib.Core.List.{[]};
+ghost use Rattle.table.specs.declared.calls.UnitCall.the-variants.{Enrol, Test, Availability};
+ghost use Rattle.table.specs.declared.calls.ConsumerCall.the-variants.{Declare, Meter};
+ghost use Rattle.table.specs.declared.calls.ContractCall.the-variants.{Commit, Release};
+ghost use Rattle.gathering.specs.Units.{unitOf};
+ghost use Rattle.decision.specs.Consumers.{consumerOf};
+ghost use Rattle.decision.specs.Contracts.{contractOf};
 ghost use Rattle.book.specs.Step.{stepOf};
 pub use crate::begun::year;
-use crate::settlement::settle;
+use crate::settlement::of_consumer;
+use crate::settlement::of_contract;
+use crate::settlement::of_unit;
 pub use close::close;
-use decision::decide;
-use decision::places_of;
 pub use fix::fix;
-use record::Call;
 use state::Book;
 use state::Reply;
+use table::Call;
+use table::ConsumerCall;
+use table::ContractCall;
+use table::UnitCall;
 
 // Any call, with the readings lent to a test.
 pub fn step(book: Book, call: Call, readings: &[u8]) -> Reply
     ensures { λ r. ⌜ r ≡ stepOf book call (now (readings .entry)) ⌝ }
 {
-    let places = places_of(call);
-    let i = places.unit;
-    let j = places.consumer;
-    let unit = book.units[i];
-    let consumer = book.consumers[j];
-    let stage = book.stage;
-    let change = decide(
-        call,
-        stage,
-        consumer,
-        unit,
-        &book.balances,
-        &book.limits,
-        readings,
-    );
-    settle(book, places, change)
+    match call {
+        Call::Year { nhrm, nhmd, ndhmd } => year(book, nhrm, nhmd, ndhmd),
+        Call::Fix { dmp } => fix(book, dmp),
+        Call::Close { p } => close(book, p),
+        Call::Unit { unit, act } => of_unit(book, unit, act, readings),
+        Call::Consumer { consumer, act } => of_consumer(book, consumer, act),
+        Call::Contract {
+            producer,
+            consumer,
+            act,
+        } => of_contract(book, producer, consumer, act),
+    }
 }
 
 // A unit of a producer, with the fields of its record.
@@ -48,10 +52,9 @@ pub fn unit(
     e2: u32,
     cap: u32,
 ) -> Reply
-    ensures { λ r. ⌜ r ≡ unitOf book unit producer kind flags pic ppr e1 e2 cap ⌝ }
+    ensures { λ r. ⌜ r ≡ unitOf book unit (Enrol producer kind flags pic ppr e1 e2 cap) [] ⌝ }
 {
-    let call = Call::Unit {
-        unit,
+    let act = UnitCall::Enrol {
         producer,
         kind,
         flags,
@@ -61,7 +64,7 @@ pub fn unit(
         e2,
         cap,
     };
-    step(book, call, b"")
+    of_unit(book, unit, act, b"")
 }
 
 // A test of a component, with its readings, four bytes each, low byte first.
@@ -74,16 +77,15 @@ pub fn test(
     count: u32,
     readings: &[u8],
 ) -> Reply
-    ensures { λ r. ⌜ r ≡ testReply book unit component ending tc count (now (readings .entry)) ⌝ }
+    ensures { λ r. ⌜ r ≡ unitOf book unit (Test component ending tc count) (now (readings .entry)) ⌝ }
 {
-    let call = Call::Test {
-        unit,
+    let act = UnitCall::Test {
         component,
         ending,
         tc,
         count,
     };
-    step(book, call, readings)
+    of_unit(book, unit, act, readings)
 }
 
 // The availability of a component, minutes.
@@ -96,53 +98,42 @@ pub fn availability(
     hif: u32,
     hed: u32,
 ) -> Reply
-    ensures { λ r. ⌜ r ≡ availabilityReply book unit component hd hmp hif hed ⌝ }
+    ensures { λ r. ⌜ r ≡ unitOf book unit (Availability component hd hmp hif hed) [] ⌝ }
 {
-    let call = Call::Availability {
-        unit,
+    let act = UnitCall::Availability {
         component,
         hd,
         hmp,
         hif,
         hed,
     };
-    step(book, call, b"")
+    of_unit(book, unit, act, b"")
 }
 
 // A consumer's declaration D and the administrator's projection A, kW.
 pub fn declare(book: Book, consumer: u32, d: u32, a: u32) -> Reply
-    ensures { λ r. ⌜ r ≡ declareOf book consumer d a ⌝ }
+    ensures { λ r. ⌜ r ≡ consumerOf book consumer (Declare d a) ⌝ }
 {
-    step(book, Call::Declare { consumer, d, a }, b"")
+    of_consumer(book, consumer, ConsumerCall::Declare { d, a })
 }
 
 // A contract of q kW.
 pub fn commit(book: Book, producer: u32, consumer: u32, q: u32) -> Reply
-    ensures { λ r. ⌜ r ≡ commitOf book producer consumer q ⌝ }
+    ensures { λ r. ⌜ r ≡ contractOf book producer consumer (Commit q) ⌝ }
 {
-    let call = Call::Commit {
-        producer,
-        consumer,
-        q,
-    };
-    step(book, call, b"")
+    of_contract(book, producer, consumer, ContractCall::Commit { q })
 }
 
 // A release of q kW.
 pub fn release(book: Book, producer: u32, consumer: u32, q: u32) -> Reply
-    ensures { λ r. ⌜ r ≡ releaseOf book producer consumer q ⌝ }
+    ensures { λ r. ⌜ r ≡ contractOf book producer consumer (Release q) ⌝ }
 {
-    let call = Call::Release {
-        producer,
-        consumer,
-        q,
-    };
-    step(book, call, b"")
+    of_contract(book, producer, consumer, ContractCall::Release { q })
 }
 
 // A consumer's real demand, kW.
 pub fn meter(book: Book, consumer: u32, dreal: u32) -> Reply
-    ensures { λ r. ⌜ r ≡ meterOf book consumer dreal ⌝ }
+    ensures { λ r. ⌜ r ≡ consumerOf book consumer (Meter dreal) ⌝ }
 {
-    step(book, Call::Meter { consumer, dreal }, b"")
+    of_consumer(book, consumer, ConsumerCall::Meter { dreal })
 }

@@ -1,77 +1,90 @@
-// A change settled in the book.
+// What is decided of a call, settled in the book.
 ghost use mathlib.Core.Path.{_≡_};
-ghost use lib.ListN.{set};
-ghost use Rattle.state.specs.State.{withUnits, withConsumers, withBalances};
-ghost use Rattle.book.specs.Settlement.{accepted, settledOf};
-use crate::begun::year;
-use close::close;
-use decision::Change;
-use decision::Places;
-use fix::fix;
-use quantities::CONSUMERS;
-use quantities::UNITS;
+ghost use Rattle.gathering.specs.Units.{unitOf};
+ghost use Rattle.decision.specs.Consumers.{consumerOf};
+ghost use Rattle.decision.specs.Contracts.{contractOf};
+use decision::BalanceAnswer;
+use decision::ConsumerAnswer;
+use decision::consumer_answer;
+use decision::contract_answer;
+use gathering::UnitAnswer;
+use gathering::unit_answer;
 use state::Book;
-use state::CELLS;
-use state::Consumer;
 use state::Reply;
-use state::Unit;
+use state::consumer_place;
+use state::unit_place;
+use table::ConsumerCall;
+use table::ContractCall;
+use table::UnitCall;
 
-// Accepted, with a balance at a cell; outside the book nothing changes.
-fn with_balance(book: Book, cell: usize, balance: u32) -> Reply
-    ensures { λ r. ⌜ r ≡ accepted (withBalances book (set (book .balances) cell balance)) ⌝ }
+// A call of a unit.
+pub(crate) fn of_unit(book: Book, unit: u32, act: UnitCall, readings: &[u8]) -> Reply
+    ensures { λ r. ⌜ r ≡ unitOf book unit act (now (readings .entry)) ⌝ }
 {
-    if CELLS <= cell {
-        return Reply { number: 0, book };
-    }
-    let mut next = book;
-    next.balances[cell] = balance;
-    Reply {
-        number: 0,
-        book: next,
+    let place = unit_place(unit);
+    let stage = book.stage;
+    let u = book.units[place];
+    let answer = unit_answer(unit, act, stage, u, readings);
+    match answer {
+        UnitAnswer::Refused(number) => Reply { number, book },
+        UnitAnswer::Stored(after) => {
+            let mut next = book;
+            next.units[place] = after;
+            Reply {
+                number: 0,
+                book: next,
+            }
+        }
     }
 }
 
-// Accepted, with a consumer at a place; outside the book nothing changes.
-fn with_consumer(book: Book, at: usize, x: Consumer) -> Reply
-    ensures { λ r. ⌜ r ≡ accepted (withConsumers book (set (book .consumers) at x)) ⌝ }
+// A call of a consumer.
+pub(crate) fn of_consumer(book: Book, consumer: u32, act: ConsumerCall) -> Reply
+    ensures { λ r. ⌜ r ≡ consumerOf book consumer act ⌝ }
 {
-    if CONSUMERS <= at {
-        return Reply { number: 0, book };
-    }
-    let mut next = book;
-    next.consumers[at] = x;
-    Reply {
-        number: 0,
-        book: next,
+    let place = consumer_place(consumer);
+    let stage = book.stage;
+    let x = book.consumers[place];
+    let answer = consumer_answer(consumer, act, stage, x);
+    match answer {
+        ConsumerAnswer::Refused(number) => Reply { number, book },
+        ConsumerAnswer::Stored(after) => {
+            let mut next = book;
+            next.consumers[place] = after;
+            Reply {
+                number: 0,
+                book: next,
+            }
+        }
     }
 }
 
-// Accepted, with a unit at a place; outside the book nothing changes.
-fn with_unit(book: Book, at: usize, u: Unit) -> Reply
-    ensures { λ r. ⌜ r ≡ accepted (withUnits book (set (book .units) at u)) ⌝ }
+// A call of a contract.
+pub(crate) fn of_contract(book: Book, producer: u32, consumer: u32, act: ContractCall) -> Reply
+    ensures { λ r. ⌜ r ≡ contractOf book producer consumer act ⌝ }
 {
-    if UNITS <= at {
-        return Reply { number: 0, book };
-    }
-    let mut next = book;
-    next.units[at] = u;
-    Reply {
-        number: 0,
-        book: next,
-    }
-}
-
-// The number and the book after a change at these places.
-pub(crate) fn settle(book: Book, places: Places, change: Change) -> Reply
-    ensures { λ r. ⌜ r ≡ settledOf book places change ⌝ }
-{
-    match change {
-        Change::Refused(number) => Reply { number, book },
-        Change::ToBalance(balance) => with_balance(book, places.cell, balance),
-        Change::ToConsumer(x) => with_consumer(book, places.consumer, x),
-        Change::ToUnit(u) => with_unit(book, places.unit, u),
-        Change::ToGathering(hours) => year(book, hours.nhrm, hours.nhmd, hours.ndhmd),
-        Change::ToFirm(dmp) => fix(book, dmp),
-        Change::ToClosed(p) => close(book, p),
+    let place = consumer_place(consumer);
+    let stage = book.stage;
+    let x = book.consumers[place];
+    let declaration = x.declaration;
+    let answer = contract_answer(
+        producer,
+        consumer,
+        act,
+        stage,
+        declaration,
+        &book.balances,
+        &book.limits,
+    );
+    match answer {
+        BalanceAnswer::Refused(number) => Reply { number, book },
+        BalanceAnswer::Stored { cell, balance } => {
+            let mut next = book;
+            next.balances[cell] = balance;
+            Reply {
+                number: 0,
+                book: next,
+            }
+        }
     }
 }

@@ -1,4 +1,4 @@
--- An accepted close keeps what is kept.
+-- The close: an accepted one keeps what is kept, and the number of any one.
 use mathlib.Core.Path.{_≡_, refl, sym, ap, _∙_}
 use mathlib.Core.Bool.{Bool, true, false}
 use mathlib.Core.List.{List, [], _∷_, map}
@@ -16,10 +16,10 @@ use Rattle.basis.proofs.Tables.{length-tab, getD-tab}
 use Rattle.share.specs.Division.{divisionNumber}
 use Rattle.quantities.specs.Limits.{greatestTotal, greatestWeight, greatestPower, greatestPrice, consumers}
 use Rattle.share.proofs.Accepted.{enough}
-use Rattle.record.proofs.Ranged.{Numbered, close-ranged}
-use Rattle.record.specs.Calls.{partsOf}
-use Rattle.record.specs.declared.calls.Call.the-variants as call
-use Rattle.record.specs.Names as name
+use Rattle.table.proofs.Ranged.{Numbered, close-ranged}
+use Rattle.table.specs.Calls.{partsOf}
+use Rattle.table.specs.declared.calls.Call.the-variants as call
+use Rattle.table.specs.Calls as name
 use Rattle.state.specs.declared.kept.Stage.the-variants.{Firm}
 use Rattle.state.specs.declared.kept.Declaration.{Declaration}
 use Rattle.state.specs.declared.kept.Declaration.the-variants.{Undeclared, Declared}
@@ -30,8 +30,10 @@ use Rattle.close.specs.Close.{adjustedOf, adjustedIn, surplusBy, chargeBy, surp
 use Rattle.book.specs.Lists.{Event}
 use Rattle.claims.specs.History.{Last, never, last, isA, lastThat, begunIn, fixedIn, closedIn, dmpIn, priceIn, declaredIn}
 use Rattle.claims.specs.Figures.{demandIn, declarationBy, consumerIn, consumersIn, adjustedDemandsIn, positiveAdjustmentsIn, allChargesIn, allCreditsIn, undistributedIn}
+use Rattle.claims.specs.Refusals.{numberIn}
 use Rattle.claims.proofs.SameFigures.{last-this, hours-as-before, dmp-as-before}
-use Rattle.claims.proofs.Kept.{firm-is, Passed, accepted-shows, Kept}
+use Rattle.claims.proofs.Stages.{firm-is, Passed, accepted-shows, behind}
+use Rattle.claims.proofs.Kept.{Kept}
 use Rattle.claims.proofs.Untouched.{same-consumers, plants-other, consumers-other, contracts-other, firm-other}
 use Rattle.claims.proofs.Demands.{demand-at-most}
 
@@ -204,3 +206,10 @@ module _ (h : List Event) (b : Book) (k : Kept h b) (p : ℕ) (readings : List �
               charges-divided = λ q. rw (← charges-now, ← surpluses-now) (divides (sum (surplusesIn (b .dmp) (b .consumers))) refl);
             };
       }
+
+-- the number of a close
+pub close-exact : (h : List Event) (b : Book) (k : Kept h b) (p : ℕ) (readings : List ℕ) → closeNumber b p ≡ numberIn h (call.Close p) readings
+unfolding closeNumberBy numberIn adjustedDemandsIn
+close-exact h b k p readings =
+    behind h (b .stage) (k .timing .stage-kept) (call.Close p) [] Firm (closeRest (b .dmp) (b .consumers)) (closeRest (dmpIn h) (consumersIn h))
+    (λ z s. ap (λ d. closeRest d (b .consumers)) (k .timing .dmp-kept) ∙ ap (closeRest (dmpIn h)) (k .consumers .consumers-kept))

@@ -1,7 +1,7 @@
--- An accepted test or availability keeps what is kept.
+-- The units after an accepted test or availability.
 use mathlib.Core.Path.{_≡_, refl, sym, ap, _∙_, subst⁻¹}
 use mathlib.Core.Bool.{Bool, true, false}
-use mathlib.Core.List.{List, [], _∷_}
+use mathlib.Core.List.{List, _∷_}
 use Prim.Native.Nat.{ℕ, zero, suc, _-_, _≤_}
 use native.Mathlib.Nat.{le-refl}
 use native.Mathlib.Omega.{arith}
@@ -19,35 +19,39 @@ use Rattle.power.specs.declared.component.Cap.the-variants.{Free, At}
 use Rattle.power.specs.declared.component.Availability.the-variants.{Known}
 use Rattle.power.specs.declared.component.Component.{Component}
 use Rattle.plant.proofs.Results.{test-within-greatest, test-within-cap, availability-keeps-maximum}
-use Rattle.record.proofs.Ranged.{Numbered, TestRanged, test-ranged, AvailabilityRanged, availability-ranged}
-use Rattle.record.specs.Calls.{partsOf}
-use Rattle.record.specs.declared.calls.Call.the-variants as call
-use Rattle.record.specs.Names as name
-use Rattle.state.specs.declared.kept.Stage.the-variants.{Gathering}
+use Rattle.table.proofs.Ranged.{Numbered}
+use Rattle.table.specs.Calls.{partsOf}
+use Rattle.table.specs.declared.calls.Call.the-variants as call
+use Rattle.table.specs.declared.calls.UnitCall.the-variants as unit-call
+use Rattle.table.specs.Calls as name
 use Rattle.state.specs.declared.kept.Unit.{Unit}
 use Rattle.state.specs.declared.kept.Book.{Book}
 use Rattle.state.specs.State.{unitAt}
-use Rattle.decision.specs.Gathering.{hasTest, hasAvailability, componentOf, withComponent, capOf, testRest, testedNumber, testedUnit, tested, availabilityRest, availableNumber, availableUnit, available}
+use Rattle.gathering.specs.Units.{hasTest, hasAvailability, componentOf, withComponent, capOf, testRest, testedUnit, availabilityRest, availableUnit}
 use Rattle.book.specs.Lists.{Event}
-use Rattle.claims.specs.History.{Last, never, last, isA, field, about, lastThat, fixedIn, closedIn, begunIn, entryBy, entryIn, componentIn}
+use Rattle.claims.specs.History.{Last, never, last, isA, field, about, lastThat, entryBy, entryIn, componentIn}
 use Rattle.claims.specs.Figures.{unitIn}
+use Rattle.claims.specs.Refusals.{enrolledAs}
 use Rattle.claims.proofs.SameFigures.{unit-is, about-as-before, entry-as-before, component-another}
-use Rattle.claims.proofs.Kept.{gathering-is, Passed, accepted-shows, Within, Plants, Kept}
-use Rattle.claims.proofs.Untouched.{timing-other, consumers-other, contracts-other, firm-before, money-before}
-use Rattle.claims.proofs.GatheringCalls.{unit-at, unit-stored}
+use Rattle.claims.proofs.Kept.{Within, Plants, Kept}
+use Rattle.claims.proofs.Places.{unit-at, unit-stored}
 
--- what a unit's number shows where it is enrolled
-enrolled-never : (l : Last) (component ending tc count : ℕ) (readings : List ℕ) → testRest (entryBy l) component ending tc count readings ≡ 0 → (l ≡ never → ⊥) × (testNumber ending tc count readings ≡ 0)
+-- the number of a call on a component behind 3 and 4, from its unit's last accepted enrolment
+pub test-in : (l : Last) (component ending tc count : ℕ) (readings : List ℕ) → testRest (entryBy l) component ending tc count readings ≡ enrolledAs l (λ kind. pick (hasTest kind component) (testNumber ending tc count readings) 7)
 unfolding testRest
-enrolled-never never component ending tc count readings z = absurd (omega arith)
-enrolled-never (last e) component ending tc count readings z =
-    ((λ q. let n : _≡_ {A = ℕ} 0 1 = cc in absurd (omega arith)), peel-not (hasTest (field 2 e) component) 6 (testNumber ending tc count readings) z .1)
+test-in never component ending tc count readings = refl
+test-in (last e) component ending tc count readings = refl
 
-available-never : (l : Last) (component hd hmp hif hed : ℕ) → availabilityRest (entryBy l) component hd hmp hif hed ≡ 0 → (l ≡ never → ⊥) × (availabilityNumber (minutes hd hmp hif hed) ≡ 0)
+pub available-in : (l : Last) (component hd hmp hif hed : ℕ) → availabilityRest (entryBy l) component hd hmp hif hed ≡ enrolledAs l (λ kind. pick (hasAvailability kind component) (availabilityNumber (minutes hd hmp hif hed)) 7)
 unfolding availabilityRest
-available-never never component hd hmp hif hed z = absurd (omega arith)
-available-never (last e) component hd hmp hif hed z =
-    ((λ q. let n : _≡_ {A = ℕ} 0 1 = cc in absurd (omega arith)), peel-not (hasAvailability (field 2 e) component) 6 (availabilityNumber (minutes hd hmp hif hed)) z .1)
+available-in never component hd hmp hif hed = refl
+available-in (last e) component hd hmp hif hed = refl
+
+-- accepted, the unit is enrolled, and the component's own number is 0
+enrolled-passed : (l : Last) (has : ℕ → Bool) (own : ℕ) → enrolledAs l (λ kind. pick (has kind) own 7) ≡ 0 → (l ≡ never → ⊥) × (own ≡ 0)
+enrolled-passed never has own z = absurd (omega arith)
+enrolled-passed (last e) has own z =
+    ((λ q. let n : _≡_ {A = ℕ} 0 1 = cc in absurd (omega arith)), peel-not (has (field 2 e)) 6 own z .1)
 
 -- one component of three replaced
 replaced : (u : Unit) (component j : ℕ) (x : Component) → component ≤ greatestComponent → j ≤ greatestComponent → componentOf (withComponent u component x) j ≡ pick (eqb component j) x (componentOf u j)
@@ -73,7 +77,10 @@ component-in h w (suc (suc zero)) p = refl
 component-in h w (suc (suc (suc j))) p = absurd (omega arith)
 
 -- a call on one component of one unit: the units and what is known of their powers
-module _ (h : List Event) (b : Book) (k : Kept h b) (e : Event) (u component : ℕ) (x : Component) (numbered : Numbered units u) (few : component ≤ greatestComponent) (not-unit : isA name.Unit e ≡ false) (this : (j : ℕ) → componentIn (e ∷ h) u j ≡ pick (eqb component j) x (componentIn h u j)) (others : (w j : ℕ) → (w ≡ u → ⊥) → componentIn (e ∷ h) w j ≡ componentIn h w j) (cap-kept : Within (capOf (entryIn h u)) x) (small-kept : maximumPower x .0 ≤ greatestPower) (there : lastThat (about name.Unit u) h ≡ never → ⊥) where
+module _ (h : List Event) (b : Book) (k : Kept h b) (e : Event) (u component : ℕ) (x : Component) (numbered : Numbered units u) (few : component ≤ greatestComponent) (not-unit : isA name.Unit e ≡ false) (of-unit : field 0 e ≡ u) (this : (j : ℕ) → componentIn (e ∷ h) u j ≡ pick (eqb component j) x (componentIn h u j)) (cap-kept : Within (capOf (entryIn h u)) x) (small-kept : maximumPower x .0 ≤ greatestPower) (there : lastThat (about name.Unit u) h ≡ never → ⊥) where
+  others : (w j : ℕ) → (w ≡ u → ⊥) → componentIn (e ∷ h) w j ≡ componentIn h w j
+  others w j o = component-another e h w j (ne-eqb (field 0 e) w (λ q. o (sym q ∙ of-unit)))
+
   stored-at : (j : ℕ) → j ≤ greatestComponent → componentIn (e ∷ h) u j ≡ componentOf (withComponent (unitIn h u) component x) j
   stored-at j q =
       this j
@@ -116,27 +123,21 @@ module _ (h : List Event) (b : Book) (k : Kept h b) (e : Event) (u component : �
         untested = λ w j. untested-kept w j (eqb w u) refl;
       }
 
-module _ (h : List Event) (b : Book) (k : Kept h b) where
-  module _ (unit component ending tc count : ℕ) (readings : List ℕ) (z : testedNumber b unit component ending tc count readings ≡ 0) where
+module _ (h : List Event) (b : Book) (k : Kept h b) (unit component : ℕ) (numbered : Numbered units unit) (few : component ≤ greatestComponent) where
+  was : componentOf (unitAt (b .units) unit) component ≡ componentIn h unit component
+  was = ap (λ v. componentOf v component) (unit-at h b k unit numbered) ∙ component-in h unit component few
+
+  module _ (ending tc count : ℕ) (readings : List ℕ) (z : testRest (unitAt (b .units) unit .enrolment) component ending tc count readings ≡ 0) where
     abbrev test : Event
-    test = record { call = call.Test unit component ending tc count; readings = readings }
-
-    shown : Passed (call.Test unit component ending tc count) readings Gathering (b .stage) (testRest (unitAt (b .units) unit .enrolment) component ending tc count readings)
-    unfolding testedNumber
-    shown =
-        accepted-shows (call.Test unit component ending tc count) readings Gathering (b .stage) (testRest (unitAt (b .units) unit .enrolment) component ending tc count readings) z
-
-    ranges : TestRanged unit component
-    ranges = test-ranged unit component ending tc count readings (shown .range)
-
-    was-gathering : (closedIn h ≡ false) × (fixedIn h ≡ false) × (begunIn h ≡ true)
-    was-gathering =
-        gathering-is (closedIn h) (fixedIn h) (begunIn h) (sym (k .timing .stage-kept) ∙ shown .stage)
+    test = record { call = call.Unit unit (unit-call.Test component ending tc count); readings = readings }
 
     there : (lastThat (about name.Unit unit) h ≡ never → ⊥) × (testNumber ending tc count readings ≡ 0)
     there =
-        enrolled-never (lastThat (about name.Unit unit) h) component ending tc count readings
-        (ap (λ (v : Unit). testRest (v .enrolment) component ending tc count readings) (sym (unit-at h b k unit (ranges .unit))) ∙ shown .rest)
+        let l = lastThat (about name.Unit unit) h in
+        enrolled-passed l (λ kind. hasTest kind component) (testNumber ending tc count readings)
+        (sym (test-in l component ending tc count readings)
+        ∙ ap (λ (v : Unit). testRest (v .enrolment) component ending tc count readings) (sym (unit-at h b k unit numbered))
+        ∙ z)
 
     abbrev before : Component
     before = componentOf (unitAt (b .units) unit) component
@@ -144,13 +145,8 @@ module _ (h : List Event) (b : Book) (k : Kept h b) where
     abbrev after : Component
     after = testOf before (capOf (unitAt (b .units) unit .enrolment)) ending tc count readings .component
 
-    was : before ≡ componentIn h unit component
-    was =
-        ap (λ v. componentOf v component) (unit-at h b k unit (ranges .unit))
-        ∙ component-in h unit component (ranges .component)
-
     cap-was : capOf (unitAt (b .units) unit .enrolment) ≡ capOf (entryIn h unit)
-    cap-was = ap (λ (v : Unit). capOf (v .enrolment)) (unit-at h b k unit (ranges .unit))
+    cap-was = ap (λ (v : Unit). capOf (v .enrolment)) (unit-at h b k unit numbered)
 
     -- the test's component is the one of the rows of "Maximum power"
     by-rows : (x : Component) (cap : Cap) → testOf x cap ending tc count readings .component ≡ afterTest cap ending x (measuredOf (x .«void_trip») ending tc count (energyOf count readings))
@@ -170,10 +166,6 @@ module _ (h : List Event) (b : Book) (k : Kept h b) where
             ∙ ap (λ c. testOf before c ending tc count readings .component) (sym cap-was)
         go false q = refl
 
-    others : (w j : ℕ) → (w ≡ unit → ⊥) → componentIn (test ∷ h) w j ≡ componentIn h w j
-    unfolding partsOf
-    others w j o = component-another test h w j (ne-eqb unit w (λ q. o (sym q)))
-
     within : (cap : Cap) (x : Component) → Within cap x → Within cap (testOf x cap ending tc count readings .component)
     within Free x q = le-refl (maximumPower (testOf x Free ending tc count readings .component) .0)
     within (At m) x q = test-within-cap x m ending tc count readings q
@@ -183,50 +175,31 @@ module _ (h : List Event) (b : Book) (k : Kept h b) where
         ap (λ x. testOf x (capOf (unitAt (b .units) unit .enrolment)) ending tc count readings .component) was
         ∙ ap (λ c. testOf (componentIn h unit component) c ending tc count readings .component) cap-was
 
-    pub test-kept : Kept (test ∷ h) (tested b unit component ending tc count readings)
-    unfolding tested testedUnit partsOf
-    test-kept =
-        record {
-          timing = timing-other test h refl (k .timing);
-          plants =
-              component-stored h b k test unit component after (ranges .unit) (ranges .component) refl this others
-              (subst⁻¹ (λ x. Within (capOf (entryIn h unit)) x) after-is (within (capOf (entryIn h unit)) (componentIn h unit component) (k .plants .power-capped unit component)))
-              (subst⁻¹ (λ x. maximumPower x .0 ≤ greatestPower) after-is (test-within-greatest (componentIn h unit component) (capOf (entryIn h unit)) ending tc count readings (k .plants .power-small unit component)))
-              (there .0);
-          consumers = consumers-other test h refl (k .consumers);
-          contracts = contracts-other test h refl (k .contracts);
-          firm = firm-before test h refl (was-gathering .1) (k .firm);
-          money = money-before test h refl (was-gathering .0);
-        }
+    pub test-plants : Plants (test ∷ h) (set (b .units) (unit - 1) (testedUnit (unitAt (b .units) unit) component ending tc count readings))
+    unfolding testedUnit partsOf
+    test-plants =
+        component-stored h b k test unit component after numbered few refl refl this
+        (subst⁻¹ (λ x. Within (capOf (entryIn h unit)) x) after-is (within (capOf (entryIn h unit)) (componentIn h unit component) (k .plants .power-capped unit component)))
+        (subst⁻¹ (λ x. maximumPower x .0 ≤ greatestPower) after-is (test-within-greatest (componentIn h unit component) (capOf (entryIn h unit)) ending tc count readings (k .plants .power-small unit component)))
+        (there .0)
 
-  module _ (unit component hd hmp hif hed : ℕ) (readings : List ℕ) (z : availableNumber b unit component hd hmp hif hed ≡ 0) where
+  module _ (hd hmp hif hed : ℕ) (readings : List ℕ) (z : availabilityRest (unitAt (b .units) unit .enrolment) component hd hmp hif hed ≡ 0) where
     abbrev availability : Event
-    availability = record { call = call.Availability unit component hd hmp hif hed; readings = readings }
-
-    available-shown : Passed (call.Availability unit component hd hmp hif hed) [] Gathering (b .stage) (availabilityRest (unitAt (b .units) unit .enrolment) component hd hmp hif hed)
-    unfolding availableNumber
-    available-shown =
-        accepted-shows (call.Availability unit component hd hmp hif hed) [] Gathering (b .stage) (availabilityRest (unitAt (b .units) unit .enrolment) component hd hmp hif hed) z
-
-    available-ranges : AvailabilityRanged unit component hd hmp hif hed
-    available-ranges = availability-ranged unit component hd hmp hif hed [] (available-shown .range)
-
-    still-gathering : (closedIn h ≡ false) × (fixedIn h ≡ false) × (begunIn h ≡ true)
-    still-gathering =
-        gathering-is (closedIn h) (fixedIn h) (begunIn h) (sym (k .timing .stage-kept) ∙ available-shown .stage)
+    availability = record { call = call.Unit unit (unit-call.Availability component hd hmp hif hed); readings = readings }
 
     available-there : (lastThat (about name.Unit unit) h ≡ never → ⊥) × (availabilityNumber (minutes hd hmp hif hed) ≡ 0)
     available-there =
-        available-never (lastThat (about name.Unit unit) h) component hd hmp hif hed
-        (ap (λ (v : Unit). availabilityRest (v .enrolment) component hd hmp hif hed) (sym (unit-at h b k unit (available-ranges .unit))) ∙ available-shown .rest)
+        let l = lastThat (about name.Unit unit) h in
+        enrolled-passed l (λ kind. hasAvailability kind component) (availabilityNumber (minutes hd hmp hif hed))
+        (sym (available-in l component hd hmp hif hed)
+        ∙ ap (λ (v : Unit). availabilityRest (v .enrolment) component hd hmp hif hed) (sym (unit-at h b k unit numbered))
+        ∙ z)
 
     abbrev held : Component
     held = availabilityOf (componentOf (unitAt (b .units) unit) component) (minutes hd hmp hif hed) .component
 
     held-is : held ≡ availabilityOf (componentIn h unit component) (minutes hd hmp hif hed) .component
-    held-is =
-        ap (λ v. availabilityOf (componentOf v component) (minutes hd hmp hif hed) .component) (unit-at h b k unit (available-ranges .unit))
-        ∙ ap (λ x. availabilityOf x (minutes hd hmp hif hed) .component) (component-in h unit component (available-ranges .component))
+    held-is = ap (λ x. availabilityOf x (minutes hd hmp hif hed) .component) was
 
     by-minutes : (x : Component) → availabilityOf x (minutes hd hmp hif hed) .component ≡ record { result = x .result; «void_trip» = x .«void_trip»; availability = Known (minutes hd hmp hif hed) }
     unfolding availabilityOf
@@ -243,10 +216,6 @@ module _ (h : List Event) (b : Book) (k : Kept h b) where
             ∙ sym held-is
         go false q = refl
 
-    available-others : (w j : ℕ) → (w ≡ unit → ⊥) → componentIn (availability ∷ h) w j ≡ componentIn h w j
-    unfolding partsOf
-    available-others w j o = component-another availability h w j (ne-eqb unit w (λ q. o (sym q)))
-
     same-power : maximumPower held ≡ maximumPower (componentIn h unit component)
     same-power = ap maximumPower held-is ∙ availability-keeps-maximum (componentIn h unit component) (minutes hd hmp hif hed)
 
@@ -254,18 +223,10 @@ module _ (h : List Event) (b : Book) (k : Kept h b) where
     same-within Free x y q w = le-refl (maximumPower x .0)
     same-within (At m) x y q w = subst⁻¹ (λ (p : Kw). p .0 ≤ m .0) q w
 
-    pub availability-kept : Kept (availability ∷ h) (available b unit component hd hmp hif hed)
-    unfolding available availableUnit partsOf
-    availability-kept =
-        record {
-          timing = timing-other availability h refl (k .timing);
-          plants =
-              component-stored h b k availability unit component held (available-ranges .unit) (available-ranges .component) refl available-this available-others
-              (same-within (capOf (entryIn h unit)) held (componentIn h unit component) same-power (k .plants .power-capped unit component))
-              (subst⁻¹ (λ (p : Kw). p .0 ≤ greatestPower) same-power (k .plants .power-small unit component))
-              (available-there .0);
-          consumers = consumers-other availability h refl (k .consumers);
-          contracts = contracts-other availability h refl (k .contracts);
-          firm = firm-before availability h refl (still-gathering .1) (k .firm);
-          money = money-before availability h refl (still-gathering .0);
-        }
+    pub availability-plants : Plants (availability ∷ h) (set (b .units) (unit - 1) (availableUnit (unitAt (b .units) unit) component hd hmp hif hed))
+    unfolding availableUnit partsOf
+    availability-plants =
+        component-stored h b k availability unit component held numbered few refl refl available-this
+        (same-within (capOf (entryIn h unit)) held (componentIn h unit component) same-power (k .plants .power-capped unit component))
+        (subst⁻¹ (λ (p : Kw). p .0 ≤ greatestPower) same-power (k .plants .power-small unit component))
+        (available-there .0)

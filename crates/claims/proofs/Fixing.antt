@@ -1,32 +1,38 @@
--- An accepted fix keeps what is kept.
+-- The fix: an accepted one keeps what is kept, and the number of any one.
 use mathlib.Core.Path.{_≡_, refl, sym, ap, _∙_}
 use mathlib.Core.Bool.{true, false, false≢true}
 use mathlib.Core.List.{List, [], _∷_}
 use Prim.Native.Nat.{ℕ, suc, _+_, _-_, _*_, _≤_, _<_, zero-le}
 use native.Mathlib.Nat.{mul-zero}
 use native.Mathlib.Omega.{arith}
+use borrow.Author.Tests.{le-ltb, ne-eqb}
+use lib.Dec.{eqb}
 use lib.ListN.{length, getD, take, drop}
 use lib.Seq.{getD-drop}
-use Rattle.basis.specs.Sums.{sum}
-use Rattle.basis.proofs.Sums.{sum-at-most}
+use Rattle.basis.specs.Choice.{pick}
+use Rattle.basis.specs.Sums.{sum, allAtMost}
+use Rattle.basis.proofs.Sums.{sum-at-most, at-most-all}
 use Rattle.basis.proofs.Tables.{getD-tab, tab-same}
-use Rattle.share.specs.Division.{shares}
-use Rattle.quantities.specs.Limits.{greatestPower, consumers}
-use Rattle.record.proofs.Ranged.{Numbered, fix-ranged}
-use Rattle.record.specs.Calls.{partsOf}
-use Rattle.record.specs.declared.calls.Call.the-variants as call
-use Rattle.record.specs.Names as name
+use Rattle.share.specs.Division.{divisionNumber, shares}
+use Rattle.quantities.specs.Limits.{greatestTotal, greatestWeight, mostWeights, greatestPower, consumers}
+use Rattle.table.specs.Ranges.{callNumber}
+use Rattle.table.proofs.Ranged.{Numbered, fix-ranged}
+use Rattle.table.specs.Calls.{partsOf}
+use Rattle.table.specs.declared.calls.Call.the-variants as call
+use Rattle.table.specs.Calls as name
 use Rattle.state.specs.declared.kept.Stage.the-variants.{Gathering}
 use Rattle.state.specs.declared.kept.Book.{Book}
 use Rattle.state.specs.State.{freshConsumer, rowOf}
-use Rattle.fix.specs.Fix.{offersOf, efficientIn, limitsOf, weightsOf, demandBy, withDemand, withDemands, fixRest, fixNumber, fixed}
+use Rattle.fix.specs.Fix.{offersOf, efficientIn, limitsOf, weightsOf, demandBy, withDemand, withDemands, fixRest, fixNumberBy, fixNumber, fixed}
 use Rattle.book.specs.Lists.{Event}
 use Rattle.claims.specs.History.{Last, never, last, isA, lastThat, begunIn, fixedIn, closedIn, hoursIn, dmpIn, declaredIn}
-use Rattle.claims.specs.Figures.{unitsIn, offersIn, efficientOffersIn, declarationsIn, demandIn, declarationBy, readingBy, consumerIn, consumersIn}
+use Rattle.claims.specs.Figures.{unitsIn, offersIn, efficientOffersIn, declarationsIn, totalDeclaredIn, demandIn, declarationBy, readingBy, consumerIn, consumersIn}
+use Rattle.claims.specs.Refusals.{numberIn}
 use Rattle.claims.proofs.SameFigures.{consumer-is, last-this, about-as-before, hours-as-before, closed-as-before, declarations-as-before, sum-as-before}
-use Rattle.claims.proofs.Kept.{gathering-is, Passed, accepted-shows, Kept}
+use Rattle.claims.proofs.Stages.{gathering-is, Passed, accepted-shows, behind}
+use Rattle.claims.proofs.Kept.{Kept}
 use Rattle.claims.proofs.Untouched.{same-units, plants-other, money-before}
-use Rattle.claims.proofs.Demands.{weights-in}
+use Rattle.claims.proofs.Demands.{weights-in, declaration-at, length-declarations}
 
 -- a row of balances that are all 0
 pub empty-row : (balances : List ℕ) (p : ℕ) → ((i : ℕ) → getD balances i 0 ≡ 0) → sum (rowOf balances p) ≡ 0
@@ -44,7 +50,7 @@ module _ (h : List Event) (b : Book) (k : Kept h b) (dmp : ℕ) (readings : List
   fix = record { call = call.Fix dmp; readings = readings }
 
   shown : Passed (call.Fix dmp) [] Gathering (b .stage) (fixRest dmp (b .consumers))
-  unfolding fixNumber
+  unfolding fixNumberBy
   shown = accepted-shows (call.Fix dmp) [] Gathering (b .stage) (fixRest dmp (b .consumers)) z
 
   dmp-range : Numbered greatestPower dmp
@@ -153,3 +159,26 @@ module _ (h : List Event) (b : Book) (k : Kept h b) (dmp : ℕ) (readings : List
             };
         money = money-before fix h refl (was-gathering .0);
       }
+
+-- the number of a fix
+module _ (h : List Event) (b : Book) (k : Kept h b) where
+  fix-in : (dmp : ℕ) → callNumber (call.Fix dmp) [] ≡ 0 → fixRest dmp (b .consumers) ≡ pick (eqb (totalDeclaredIn h) 0) 13 0
+  unfolding divisionNumber partsOf
+  fix-in dmp z =
+      let w : weightsOf (b .consumers) ≡ declarationsIn h = ap weightsOf (k .consumers .consumers-kept) ∙ weights-in h in
+      let n = length-declarations h in
+      let top : dmp ≤ greatestPower = fix-ranged dmp [] z .most in
+      let small : allAtMost greatestWeight (declarationsIn h) ≡ true =
+      at-most-all greatestWeight (declarationsIn h) (λ i q. omega (arith, declaration-at h i (omega arith), k .consumers .declared-small (suc i))) in
+      ap (λ ws. divisionNumber dmp ws consumers) w
+      ∙ simp (
+        le-ltb greatestTotal dmp (omega arith),
+        ne-eqb (length (declarationsIn h)) 0 (λ q. absurd (omega arith)),
+        le-ltb mostWeights (length (declarationsIn h)) (omega arith),
+        small,
+      )
+
+  pub fix-exact : (dmp : ℕ) (readings : List ℕ) → fixNumber b dmp ≡ numberIn h (call.Fix dmp) readings
+  unfolding fixNumberBy numberIn
+  fix-exact dmp readings =
+      behind h (b .stage) (k .timing .stage-kept) (call.Fix dmp) [] Gathering (fixRest dmp (b .consumers)) (pick (eqb (totalDeclaredIn h) 0) 13 0) (λ z s. fix-in dmp z)

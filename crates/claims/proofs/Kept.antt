@@ -1,16 +1,11 @@
 -- What holds between a book and the history of accepted calls, and what every call keeps.
-use mathlib.Core.Path.{_≡_, refl}
-use mathlib.Core.Bool.{Bool, true, false}
+use mathlib.Core.Path.{_≡_}
+use mathlib.Core.Bool.{true, false}
 use mathlib.Core.List.{List}
 use mathlib.Core.Logic.{_⊎_}
 use Prim.Native.Nat.{ℕ, _+_, _-_, _≤_}
-use borrow.Author.Tests.{eqb-true}
-use lib.Dec.{eqb}
 use lib.ListN.{length, getD}
-use native.Mathlib.Omega.{arith}
-use Rattle.basis.specs.Choice.{pick}
 use Rattle.basis.specs.Sums.{sum}
-use Rattle.basis.proofs.Choice.{peel-not, handed-on}
 use Rattle.share.specs.Division.{divisionNumber}
 use Rattle.power.specs.Power.{fresh, maximumPower}
 use Rattle.quantities.specs.Limits.{greatestPower, producers, consumers}
@@ -18,55 +13,19 @@ use Rattle.power.specs.declared.component.Cap.{Cap}
 use Rattle.power.specs.declared.component.Cap.the-variants.{Free, At}
 use Rattle.power.specs.declared.component.Component.{Component}
 use Rattle.plant.specs.declared.offer.Hours.{Hours}
-use Rattle.record.specs.Ranges.{callNumber}
-use Rattle.record.proofs.Ranged.{Numbered}
-use Rattle.record.specs.declared.calls.Call.{Call}
-use Rattle.record.specs.Names as name
+use Rattle.table.proofs.Ranged.{Numbered}
+use Rattle.table.specs.Calls as name
 use Rattle.state.specs.declared.kept.Stage.{Stage}
 use Rattle.state.specs.declared.kept.Unit.{Unit}
 use Rattle.state.specs.declared.kept.Consumer.{Consumer}
 use Rattle.state.specs.declared.kept.CloseFigures.{CloseFigures}
 use Rattle.state.specs.declared.kept.Book.{Book}
-use Rattle.state.specs.State.{cells, cellOf, rowOf, stageNumber, ranged, staged}
-use Rattle.decision.specs.Gathering.{capOf}
+use Rattle.state.specs.State.{cells, cellOf, rowOf, stageNumber}
+use Rattle.gathering.specs.Units.{capOf}
 use Rattle.fix.specs.Fix.{limitsOf}
 use Rattle.book.specs.Lists.{Event}
-use Rattle.claims.specs.History.{never, lastThat, about, fixedIn, closedIn, stageBy, stageIn, hoursIn, dmpIn, fieldIn, declaredIn, commitmentsIn, releasesIn, entryIn, componentIn}
+use Rattle.claims.specs.History.{never, lastThat, about, fixedIn, closedIn, stageIn, hoursIn, dmpIn, fieldIn, declaredIn, commitmentsIn, releasesIn, entryIn, componentIn}
 use Rattle.claims.specs.Figures.{unitsIn, offersIn, efficientOffersIn, declarationsIn, consumersIn, adjustedDemandsIn, positiveAdjustmentsIn, allChargesIn, allCreditsIn, undistributedIn}
-
-pub blank-is : (c f b : Bool) → stageBy c f b ≡ 0 → (c ≡ false) × (f ≡ false) × (b ≡ false)
-blank-is true f b e = absurd (omega arith)
-blank-is false true b e = absurd (omega arith)
-blank-is false false true e = absurd (omega arith)
-blank-is false false false e = (refl, refl, refl)
-
-pub gathering-is : (c f b : Bool) → stageBy c f b ≡ 1 → (c ≡ false) × (f ≡ false) × (b ≡ true)
-gathering-is true f b e = absurd (omega arith)
-gathering-is false true b e = absurd (omega arith)
-gathering-is false false true e = (refl, refl, refl)
-gathering-is false false false e = absurd (omega arith)
-
-pub firm-is : (c f b : Bool) → stageBy c f b ≡ 2 → (c ≡ false) × (f ≡ true)
-firm-is true f b e = absurd (omega arith)
-firm-is false true b e = (refl, refl)
-firm-is false false true e = absurd (omega arith)
-firm-is false false false e = absurd (omega arith)
-
--- an accepted call is in range, belongs to the stage, and meets no further number
-pub record Passed (call : Call) (readings : List ℕ) (own at : Stage) (further : ℕ) : Type 0 where
-  pub range : callNumber call readings ≡ 0
-  pub stage : stageNumber at ≡ stageNumber own
-  pub rest : further ≡ 0
-
-pub accepted-shows : (call : Call) (readings : List ℕ) (own stage : Stage) (rest : ℕ) → ranged call readings (staged own stage rest) ≡ 0 → Passed call readings own stage rest
-accepted-shows call readings own stage rest e =
-    let a = handed-on (callNumber call readings) (staged own stage rest) e in
-    let b = peel-not (eqb (stageNumber stage) (stageNumber own)) 3 rest (a .1) in
-    record {
-      range = a .0;
-      stage = eqb-true (stageNumber stage) (stageNumber own) (b .0);
-      rest = b .1;
-    }
 
 pub record Timing (h : List Event) (stage : Stage) (hours : Hours) (dmp : ℕ) : Type 0 where
   pub stage-kept : stageNumber stage ≡ stageIn h

@@ -9,15 +9,15 @@ use Rattle.basis.specs.Choice.{pick}
 use Rattle.basis.proofs.Tables.{tab-same}
 use Rattle.quantities.specs.Limits.{units, consumers}
 use Rattle.power.specs.declared.component.Component.{Component}
-use Rattle.record.specs.Names.{CallName}
-use Rattle.record.specs.Names as name
+use Rattle.table.specs.Calls.{CallName}
+use Rattle.table.specs.Calls as name
 use Rattle.state.specs.declared.kept.Enrolment.{Enrolment}
 use Rattle.state.specs.declared.kept.Unit.{Unit}
 use Rattle.state.specs.declared.kept.Declaration.{Declaration}
 use Rattle.state.specs.declared.kept.Reading.{Reading}
 use Rattle.state.specs.declared.kept.Consumer.{Consumer}
 use Rattle.book.specs.Lists.{Event}
-use Rattle.claims.specs.History.{isA, field, about, aboutPair, last, lastThat, fieldIn, happened, begunIn, fixedIn, closedIn, hoursIn, dmpIn, declaredIn, sumOver, entryBy, entryIn, componentIn}
+use Rattle.claims.specs.History.{isA, field, about, aboutPair, last, lastThat, fieldIn, happened, begunIn, fixedIn, closedIn, hoursIn, dmpIn, declaredIn, meteredIn, sumOver, entryBy, entryIn, componentIn}
 use Rattle.claims.specs.Figures.{unitIn, unitsIn, declarationsIn, demandIn, declarationBy, readingBy, consumerIn, consumersIn}
 
 pub unit-is : {a b : Enrolment} {s t g k x y : Component} → a ≡ b → s ≡ t → g ≡ k → x ≡ y → _≡_ {A = Unit} (record { enrolment = a; set = s; generator = g; storage = x }) (record { enrolment = b; set = t; generator = k; storage = y })
@@ -50,6 +50,9 @@ module _ (e : Event) (h : List Event) where
   -- the last call of a name about a number
   pub about-as-before : (n : CallName) (x : ℕ) → isA n e ≡ false → lastThat (about n x) (e ∷ h) ≡ lastThat (about n x) h
   about-as-before n x q = last-as-before (about n x) (about-other n x q)
+
+  pub about-last : (n : CallName) (x : ℕ) → isA n e ≡ true → eqb (field 0 e) x ≡ true → lastThat (about n x) (e ∷ h) ≡ last e
+  about-last n x q r = last-this (about n x) (about-this n x q ∙ r)
 
   -- and where the call is of that name, about another number
   pub about-another : (n : CallName) (x : ℕ) → eqb (field 0 e) x ≡ false → lastThat (about n x) (e ∷ h) ≡ lastThat (about n x) h
@@ -115,11 +118,17 @@ module _ (e : Event) (h : List Event) where
   unfolding demandIn
   demand-as-before a b c = rw (fixed-as-before b, dmp-as-before b, declarations-as-before a)
 
+  consumer-same : (c : ℕ) → demandIn (e ∷ h) c ≡ demandIn h c → declaredIn (e ∷ h) c ≡ declaredIn h c → meteredIn (e ∷ h) c ≡ meteredIn h c → consumerIn (e ∷ h) c ≡ consumerIn h c
+  consumer-same c df d m =
+      consumer-is (ap (λ n. declarationBy n (declaredIn (e ∷ h) c)) df ∙ ap (declarationBy (demandIn h c)) d) (ap readingBy m)
+
   pub consumer-as-before : isA name.Declare e ≡ false → isA name.Fix e ≡ false → isA name.Meter e ≡ false → (c : ℕ) → consumerIn (e ∷ h) c ≡ consumerIn h c
   consumer-as-before a b m c =
-      consumer-is
-      (ap (λ d. declarationBy d (declaredIn (e ∷ h) c)) (demand-as-before a b c) ∙ ap (declarationBy (demandIn h c)) (about-as-before name.Declare c a))
-      (ap readingBy (about-as-before name.Meter c m))
+      consumer-same c (demand-as-before a b c) (about-as-before name.Declare c a) (about-as-before name.Meter c m)
+
+  -- a declaration or a reading of another consumer
+  pub consumer-another : (c : ℕ) → eqb (field 0 e) c ≡ false → demandIn (e ∷ h) c ≡ demandIn h c → consumerIn (e ∷ h) c ≡ consumerIn h c
+  consumer-another c q df = consumer-same c df (about-another name.Declare c q) (about-another name.Meter c q)
 
   pub consumers-as-before : isA name.Declare e ≡ false → isA name.Fix e ≡ false → isA name.Meter e ≡ false → consumersIn (e ∷ h) ≡ consumersIn h
   unfolding consumersIn

@@ -2,99 +2,47 @@
 use mathlib.Core.Path.{_≡_, refl, sym, ap, _∙_, subst}
 use mathlib.Core.Bool.{Bool, true, false}
 use mathlib.Core.List.{List, [], map}
-use mathlib.Core.Logic.{_⊎_, ⊎-elim}
-use Prim.Native.Nat.{ℕ, suc, min, _+_, _-_, _*_, _≤_, _<_, zero-le}
-use native.Mathlib.Nat.{le-trans, min-le-right}
+use mathlib.Core.Logic.{⊎-elim}
+use Prim.Native.Nat.{ℕ, suc, _+_, _-_, _*_, _≤_, _<_, zero-le}
+use native.Mathlib.Nat.{le-trans}
 use native.Mathlib.Omega.{arith}
 use borrow.Author.Tests.{ne-eqb}
 use lib.Dec.{eqb}
 use lib.ListN.{getD}
-use Rattle.basis.specs.Choice.{pick}
 use Rattle.basis.specs.Sums.{sum}
-use Rattle.basis.proofs.Sums.{sumUp-same, sum-zeros}
-use Rattle.basis.proofs.Tables.{getD-tab}
+use Rattle.basis.proofs.Sums.{sum-zeros}
 use Rattle.share.specs.Division.{divisionNumber, shares}
 use Rattle.share.proofs.Accepted.{accepted}
 use Rattle.share.proofs.Laws.{sum-shares, share-near}
-use Rattle.power.specs.Power.{maximumPower}
 use Rattle.quantities.specs.Limits.{units, producers, consumers}
 use Rattle.quantities.specs.Flags.{flagged, injectionGiven}
-use Rattle.plant.specs.Efficient.{chosenYear}
 use Rattle.power.specs.declared.component.Cap.the-variants.{At}
-use Rattle.plant.proofs.Offers.{offer-at-most-maximum}
-use Rattle.plant.proofs.Selection.{efficient-of-unit, efficient-at-most-offer}
-use Rattle.record.specs.Names as name
-use Rattle.record.proofs.Ranged.{Numbered}
-use Rattle.state.specs.declared.kept.Enrolment.{Enrolment}
-use Rattle.state.specs.declared.kept.Enrolment.the-variants.{Vacant, Enrolled}
+use Rattle.table.specs.Calls as name
+use Rattle.table.proofs.Ranged.{Numbered}
 use Rattle.state.specs.declared.kept.Unit.{Unit}
 use Rattle.state.specs.declared.kept.Consumer.{Consumer}
 use Rattle.state.specs.declared.kept.Book.{Book}
-use Rattle.state.specs.State.{freshUnit, freshBook, rowOf}
-use Rattle.decision.specs.Gathering.{capOf}
-use Rattle.fix.specs.Fix.{offerBy, offersOf, flagsOf, efficientIn, greatestLimit, producerBy, limitOf, limitsOf}
+use Rattle.state.specs.State.{freshBook, rowOf}
+use Rattle.gathering.specs.Units.{capOf}
 use Rattle.close.specs.Close.{creditsOf, undistributedOf}
 use Rattle.book.specs.Lists.{Event, afterAll, acceptedBy}
-use Rattle.claims.specs.History.{Last, never, last, field, fieldIn, lastThat, about, fixedIn, closedIn, hoursIn, dmpIn, declaredIn, entryBy, entryIn, componentIn}
-use Rattle.claims.specs.Figures.{unitIn, unitsIn, powerIn, offersIn, efficientOffersIn, efficientOfferIn, producerOfferIn, declarationsIn, totalDeclaredIn, demandIn, consumerIn, declarationBy, positiveAdjustmentsIn, allChargesIn, allCreditsIn, undistributedIn}
+use Rattle.claims.specs.History.{Last, never, last, field, fieldIn, lastThat, about, fixedIn, closedIn, dmpIn, declaredIn, entryBy, entryIn, componentIn}
+use Rattle.claims.specs.Figures.{efficientOfferIn, producerOfferIn, declarationsIn, totalDeclaredIn, demandIn, consumerIn, declarationBy, positiveAdjustmentsIn, allChargesIn, allCreditsIn, undistributedIn}
 use Rattle.claims.specs.Demand.{firmDemandBy, demandOf, NoSurplus, Demand3, Claim}
 use Rattle.claims.proofs.Kept.{Within, Kept}
 use Rattle.claims.proofs.Demands.{total-positive, declaration-at, demand-at, demand-in, demands-in}
 use Rattle.claims.proofs.Fixing.{empty-row}
-use Rattle.claims.proofs.GatheringCalls.{consumer-at}
+use Rattle.claims.proofs.Places.{consumer-at}
+use Rattle.claims.proofs.Offers.{within-power, limit-in}
 use Rattle.claims.proofs.Lists.{kept}
 
 numbered : {greatest n : ℕ} → 1 ≤ n → n ≤ greatest → Numbered greatest n
 numbered l m = record { least = l; most = m }
 
-module _ (h : List Event) where
-  -- the offer of a unit, and that it is at most its maximum power
-  offer-of : (u : Unit) → offerBy (hoursIn h) u (u .enrolment) ≤ maximumPower (u .set) .0
-  offer-of u = go (u .enrolment)
-    where
-      go : (e : Enrolment) → offerBy (hoursIn h) u e ≤ maximumPower (u .set) .0
-      go Vacant = zero-le
-      go (Enrolled e) = offer-at-most-maximum (e .plant) (hoursIn h) (u .set) (u .generator) (u .storage)
-
-  offer-at : (i : ℕ) → i < units → getD (offersIn h) i 0 ≤ powerIn h (suc i)
-  unfolding offersIn offersOf unitsIn
-  offer-at i p =
-      let e = Rattle.claims.proofs.Tables.map-tab (λ (u : Unit). offerBy (hoursIn h) u (u .enrolment)) (λ j. unitIn h (suc j)) units in
-      rw (e, getD-tab (λ j. offerBy (hoursIn h) (unitIn h (suc j)) (unitIn h (suc j) .enrolment)) units i 0 p) (offer-of (unitIn h (suc i)))
-
-  pub efficient-at : (i : ℕ) → i < units → efficientOfferIn h (suc i) ≤ powerIn h (suc i)
-  unfolding efficientOffersIn efficientIn
-  efficient-at i p =
-      let year = chosenYear units (flagsOf (unitsIn h)) (offersIn h) in
-      let e : suc i - 1 ≡ i = omega arith in
-      le-trans
-      (rw (e, efficient-of-unit units year (flagsOf (unitsIn h)) (offersIn h) i p) (efficient-at-most-offer year (getD (flagsOf (unitsIn h)) i 0) (getD (offersIn h) i 0)))
-      (offer-at i p)
-
-  within-power : (u : ℕ) → Numbered units u → efficientOfferIn h u ≤ powerIn h u
-  within-power u n =
-      let e : suc (u - 1) ≡ u = omega (arith, n .least) in subst (λ n. efficientOfferIn h n ≤ powerIn h n) e (efficient-at (u - 1) (omega (arith, n .least, n .most)))
-
-  -- a producer's limit is the efficient offers of its units, capped
-  pub limit-is : (p : ℕ) → Numbered producers p → getD (limitsOf (unitsIn h) (efficientOffersIn h)) (p - 1) 0 ≡ min greatestLimit (producerOfferIn h p)
-  unfolding limitsOf limitOf unitsIn
-  limit-is p np =
-      let e : suc (p - 1) ≡ p = omega (arith, np .least) in
-      let same =
-      sumUp-same (λ i. pick (eqb (producerBy (getD (unitsIn h) i freshUnit .enrolment)) p) (getD (efficientOffersIn h) i 0) 0) (λ i. pick (eqb (producerBy (entryIn h (suc i))) p) (efficientOfferIn h (suc i)) 0) units
-      (λ i q.
-      let s : suc i - 1 ≡ i = omega arith in
-      rw (getD-tab (λ j. unitIn h (suc j)) units i freshUnit q, s) refl) in
-      rw (getD-tab (λ i. limitOf (unitsIn h) (efficientOffersIn h) (suc i)) producers (p - 1) 0 (omega (arith, np .least, np .most)), e)
-      (ap (min greatestLimit) same)
-
-  limit-at : (p : ℕ) → Numbered producers p → getD (limitsOf (unitsIn h) (efficientOffersIn h)) (p - 1) 0 ≤ producerOfferIn h p
-  limit-at p np = rw (limit-is p np) (min-le-right greatestLimit (producerOfferIn h p))
-
 module _ (h : List Event) (b : Book) (k : Kept h b) where
   producer-total : (p : ℕ) → Numbered producers p → (t : Bool) → fixedIn h ≡ t → sum (rowOf (b .balances) p) ≤ producerOfferIn h p
   producer-total p np true q =
-      le-trans (k .contracts .total-kept q p np) (rw (k .firm .limits-kept q) (limit-at h p np))
+      subst (λ most. sum (rowOf (b .balances) p) ≤ most) (limit-in h b k q p np) (k .contracts .total-kept q p np)
   producer-total p np false q = rw (empty-row (b .balances) p (k .contracts .nothing-yet q)) zero-le
 
   near : fixedIn h ≡ true → (c : ℕ) → Numbered consumers c → (demandOf b c * totalDeclaredIn h < dmpIn h * fieldIn 1 (declaredIn h c) + totalDeclaredIn h) × (dmpIn h * fieldIn 1 (declaredIn h c) < demandOf b c * totalDeclaredIn h + totalDeclaredIn h)

@@ -17,7 +17,7 @@ use Rattle.power.specs.declared.component.Answer.{Answer}
 use Rattle.journal.specs.Run.{runOf}
 use Rattle.journal.specs.declared.outcome.Run.{Run}
 use Rattle.listing.specs.Listing.{totalsLine, countsLine}
-use Rattle.listing.specs.Letters.{unitLines, ownersOf, producerLines, demandLines, settlementLines}
+use Rattle.letters.specs.Letters.{unitLines, ownersOf, producerLines, demandLines, settlementLines}
 
 -- case J, record by record, with the readings of its three meters
 unfoldable pub journalWith : ℕ → ℕ → ℕ → List ℕ

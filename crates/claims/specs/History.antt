@@ -11,13 +11,12 @@ use Rattle.power.specs.declared.component.Availability.the-variants.{Known}
 use Rattle.power.specs.declared.component.Cap.{Cap}
 use Rattle.power.specs.declared.component.Component.{Component}
 use Rattle.plant.specs.declared.offer.Hours.{Hours}
-use Rattle.record.specs.Calls.{partsOf}
-use Rattle.record.specs.Names.{CallName, isNamed}
-use Rattle.record.specs.Names as name
+use Rattle.table.specs.Calls.{partsOf, CallName, isNamed}
+use Rattle.table.specs.Calls as name
 use Rattle.state.specs.declared.kept.Enrolment.{Enrolment}
 use Rattle.state.specs.declared.kept.Enrolment.the-variants.{Vacant, Enrolled}
 use Rattle.book.specs.Lists.{Event}
-use Rattle.decision.specs.Gathering.{entryOf, capOf}
+use Rattle.gathering.specs.Units.{entryOf, capOf}
 
 -- the call has this name of the table
 abbrev pub isA : CallName → Event → Bool

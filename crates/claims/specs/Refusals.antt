@@ -8,11 +8,14 @@ use Rattle.basis.specs.Sums.{sumUp, allAtMost}
 use Rattle.quantities.specs.Limits.{greatestPower, consumers}
 use Rattle.power.specs.Power.{countFits}
 use Rattle.plant.specs.Availability.{minutes, minutesFit}
-use Rattle.record.specs.declared.calls.Call.{Call}
-use Rattle.record.specs.declared.calls.Call.the-variants as call
-use Rattle.record.specs.Names as name
+use Rattle.table.specs.declared.calls.Call.{Call}
+use Rattle.table.specs.declared.calls.Call.the-variants as call
+use Rattle.table.specs.declared.calls.UnitCall.the-variants as unit-call
+use Rattle.table.specs.declared.calls.ConsumerCall.the-variants as consumer-call
+use Rattle.table.specs.declared.calls.ContractCall.the-variants as contract-call
+use Rattle.table.specs.Calls as name
 use Rattle.state.specs.State.{freshBook, ranged}
-use Rattle.decision.specs.Gathering.{hasTest, hasAvailability}
+use Rattle.gathering.specs.Units.{hasTest, hasAvailability}
 use Rattle.book.specs.Lists.{Event, replyTo, afterAll, acceptedBy}
 use Rattle.claims.specs.History.{Last, never, last, field, lastThat, about, happened, stageIn, declaredIn, commitmentsIn, releasesIn}
 use Rattle.claims.specs.Figures.{producerOfferIn, totalDeclaredIn, adjustedDemandsIn}
@@ -22,8 +25,8 @@ abbrev pub atStage : ℕ → List Event → ℕ → ℕ
 atStage own h rest = pick (eqb (stageIn h) own) rest 4
 
 -- 5: unit already enrolled; 6: unit not enrolled, else what its kind says
-abbrev pub notEnrolled : List Event → ℕ → ℕ
-notEnrolled h u = pick (happened (lastThat (about name.Unit u) h)) 5 0
+abbrev pub alreadyEnrolled : List Event → ℕ → ℕ
+alreadyEnrolled h u = pick (happened (lastThat (about name.Unit u) h)) 5 0
 
 abbrev pub enrolledAs : Last → (ℕ → ℕ) → ℕ
 enrolledAs never rest = 6
@@ -43,30 +46,31 @@ balancesIn h p = sumUp (λ i. balanceIn h p (suc i)) consumers
 -- the numbers in their order, each under its condition; 0 where none is met
 unfoldable pub numberIn : List Event → Call → List ℕ → ℕ
 numberIn h (call.Year nhrm nhmd ndhmd) readings = ranged (call.Year nhrm nhmd ndhmd) [] (atStage 0 h 0)
-numberIn h (call.Unit unit producer kind flags pic ppr e1 e2 cap) readings =
-    ranged (call.Unit unit producer kind flags pic ppr e1 e2 cap) [] (atStage 1 h (notEnrolled h unit))
-numberIn h (call.Test unit component ending tc count) readings =
-    ranged (call.Test unit component ending tc count) readings
+numberIn h (call.Fix dmp) readings = ranged (call.Fix dmp) [] (atStage 1 h (pick (eqb (totalDeclaredIn h) 0) 13 0))
+numberIn h (call.Close p) readings =
+    ranged (call.Close p) [] (atStage 2 h (pick (allAtMost greatestPower (adjustedDemandsIn h)) 0 14))
+numberIn h (call.Unit unit (unit-call.Enrol producer kind flags pic ppr e1 e2 cap)) readings =
+    ranged (call.Unit unit (unit-call.Enrol producer kind flags pic ppr e1 e2 cap)) [] (atStage 1 h (alreadyEnrolled h unit))
+numberIn h (call.Unit unit (unit-call.Test component ending tc count)) readings =
+    ranged (call.Unit unit (unit-call.Test component ending tc count)) readings
     (atStage 1 h
     (enrolledAs (lastThat (about name.Unit unit) h)
     (λ kind. pick (hasTest kind component) (pick (countFits ending tc count) 0 8) 7)))
-numberIn h (call.Availability unit component hd hmp hif hed) readings =
-    ranged (call.Availability unit component hd hmp hif hed) []
+numberIn h (call.Unit unit (unit-call.Availability component hd hmp hif hed)) readings =
+    ranged (call.Unit unit (unit-call.Availability component hd hmp hif hed)) []
     (atStage 1 h
     (enrolledAs (lastThat (about name.Unit unit) h)
     (λ kind. pick (hasAvailability kind component) (pick (minutesFit (minutes hd hmp hif hed)) 0 9) 7)))
-numberIn h (call.Declare consumer d a) readings = ranged (call.Declare consumer d a) [] (atStage 1 h 0)
-numberIn h (call.Fix dmp) readings = ranged (call.Fix dmp) [] (atStage 1 h (pick (eqb (totalDeclaredIn h) 0) 13 0))
-numberIn h (call.Commit producer consumer q) readings =
-    ranged (call.Commit producer consumer q) []
+numberIn h (call.Consumer consumer (consumer-call.Declare d a)) readings =
+    ranged (call.Consumer consumer (consumer-call.Declare d a)) [] (atStage 1 h 0)
+numberIn h (call.Consumer consumer (consumer-call.Meter dreal)) readings =
+    ranged (call.Consumer consumer (consumer-call.Meter dreal)) [] (atStage 2 h (declaredTo h consumer 0))
+numberIn h (call.Contract producer consumer (contract-call.Commit q)) readings =
+    ranged (call.Contract producer consumer (contract-call.Commit q)) []
     (atStage 2 h (declaredTo h consumer (pick (ltb (producerOfferIn h producer) (balancesIn h producer + q)) 11 0)))
-numberIn h (call.Release producer consumer q) readings =
-    ranged (call.Release producer consumer q) []
+numberIn h (call.Contract producer consumer (contract-call.Release q)) readings =
+    ranged (call.Contract producer consumer (contract-call.Release q)) []
     (atStage 2 h (declaredTo h consumer (pick (ltb (balanceIn h producer consumer) q) 12 0)))
-numberIn h (call.Meter consumer dreal) readings =
-    ranged (call.Meter consumer dreal) [] (atStage 2 h (declaredTo h consumer 0))
-numberIn h (call.Close p) readings =
-    ranged (call.Close p) [] (atStage 2 h (pick (allAtMost greatestPower (adjustedDemandsIn h)) 0 14))
 
 -- after any list of calls from a fresh book, any further call answers the number of its conditions
 abbrev pub ExactRefusals : Type 0

@@ -1,11 +1,11 @@
 -- The close: charges fit, figures by consumer, and what the division of the charges leaves.
 use mathlib.Core.Path.{_≡_, refl, sym, ap, _∙_}
 use mathlib.Core.Bool.{Bool, true, false}
-use mathlib.Core.List.{List, [], map}
-use Prim.Native.Nat.{ℕ, zero, suc, _-_, _*_, _^_, _≤_, _<_, zero-le}
-use native.Mathlib.Nat.{mul-le-mul}
+use mathlib.Core.List.{List, [], _∷_, map}
+use Prim.Native.Nat.{ℕ, zero, suc, _-_, _*_, _/_, _^_, _≤_, _<_, zero-le}
+use native.Mathlib.Nat.{mul-le-mul, zero-mul, zero-div}
 use native.Mathlib.Omega.{arith}
-use borrow.Author.Tests.{eqb-true, eqb-false, ne-eqb}
+use borrow.Author.Tests.{eqb-true, eqb-false}
 use lib.Dec.{ltb, eqb}
 use lib.ListN.{length, getD, replicate, length-map, List·getD-map}
 use Rattle.basis.specs.Choice.{pick}
@@ -17,17 +17,19 @@ use Rattle.share.specs.Division.{Divides, divisionNumber, shares}
 use Rattle.quantities.specs.Limits.{greatestPower, greatestPrice, consumers}
 use Rattle.state.specs.declared.kept.Declaration.{Declaration}
 use Rattle.state.specs.declared.kept.Declaration.the-variants.{Undeclared, Declared}
+use Rattle.state.specs.declared.kept.Reading.{Reading}
 use Rattle.state.specs.declared.kept.Consumer.{Consumer}
 use Rattle.state.specs.declared.kept.CloseFigures.{CloseFigures}
-use Rattle.record.specs.Ranges.{callNumber}
-use Rattle.record.specs.declared.calls.Call.the-variants as call
-use Rattle.record.proofs.Ranged.{close-ranged}
+use Rattle.table.specs.Ranges.{callNumber}
+use Rattle.table.specs.declared.calls.Call.the-variants as call
+use Rattle.table.proofs.Ranged.{close-ranged}
 use Rattle.state.specs.declared.kept.Stage.{Stage}
 use Rattle.state.specs.declared.kept.Stage.the-variants.{Firm}
 use Rattle.state.specs.declared.kept.Book.{Book}
-use Rattle.state.specs.State.{freshConsumer, stageNumber, staged}
+use Rattle.state.specs.State.{freshConsumer, stageNumber, ranged, staged}
+use Rattle.state.proofs.RangeStage.{refused as refused-reply}
 use Rattle.fix.specs.Fix.{weightsOf}
-use Rattle.close.specs.Close.{adjustedOf, adjustedIn, surplusBy, chargeBy, surplusesIn, chargesIn, creditsOf, undistributedOf, closeRest, closeNumberBy, closeNumber, figuresOf, closeOf}
+use Rattle.close.specs.Close.{declaredReal, realDemand, realsOf, adjustedBy, adjustedOf, adjustedIn, surplusBy, chargeBy, surplusesIn, chargesIn, creditsOf, undistributedOf, closeRest, closeNumberBy, closeNumberFrom, closeNumber, figuresOf, closed, closeOf}
 use Rattle.basis.proofs.Choice.{peel-not, handed-on}
 use Rattle.basis.proofs.Filling.{tab-map}
 use Rattle.fix.proofs.DivisionLaws.{accepted, refused, whole}
@@ -54,12 +56,38 @@ pub length-adjusted : (dmp : ℕ) (xs : List Consumer) → length (adjustedIn dm
 unfolding adjustedIn
 length-adjusted dmp xs = length-map xs (adjustedOf dmp (sum (weightsOf xs)))
 
+-- DFA by Dreal, that of the undeclared being 0
+pub by-real : (dmp total : ℕ) (d : Declaration) (r : Reading) → declaredReal d r * dmp / total ≡ adjustedBy dmp total r d
+by-real dmp total Undeclared r = ap (λ n. n / total) (zero-mul dmp) ∙ zero-div total
+by-real dmp total (Declared f) r = refl
+
 -- DFA of one consumer
-pub adjusted-at : (dmp total : ℕ) (xs : List Consumer) (i : ℕ) → total ≡ sum (weightsOf xs) → adjustedOf dmp total (getD xs i freshConsumer) ≡ getD (adjustedIn dmp xs) i 0
+pub adjusted-at : (dmp total : ℕ) (xs : List Consumer) (i : ℕ) → total ≡ sum (weightsOf xs) → realDemand (getD xs i freshConsumer) * dmp / total ≡ getD (adjustedIn dmp xs) i 0
 unfolding adjustedIn
 adjusted-at dmp total xs i e =
-    ap (λ t. adjustedOf dmp t (getD xs i freshConsumer)) e
+    let x = getD xs i freshConsumer in
+    by-real dmp total (x .declaration) (x .reading)
+    ∙ ap (λ t. adjustedOf dmp t x) e
     ∙ sym (List·getD-map (adjustedOf dmp (sum (weightsOf xs))) xs i freshConsumer)
+
+-- the DFA of all consumers, by their Dreal
+pub as-adjusted : (dmp total : ℕ) (xs : List Consumer) → map (λ x. realDemand x * dmp / total) xs ≡ map (adjustedOf dmp total) xs
+as-adjusted dmp total [] = refl
+as-adjusted dmp total (x ∷ xs) = λ i. by-real dmp total (x .declaration) (x .reading) i ∷ as-adjusted dmp total xs i
+
+from-reals : (dmp total : ℕ) (xs : List Consumer) → map (λ real. real * dmp / total) (map realDemand xs) ≡ map (λ x. realDemand x * dmp / total) xs
+from-reals dmp total [] = refl
+from-reals dmp total (x ∷ xs) = ap (λ l. realDemand x * dmp / total ∷ l) (from-reals dmp total xs)
+
+pub quotient-at : (dmp total : ℕ) (reals : List ℕ) (i : ℕ) → getD (map (λ real. real * dmp / total) reals) i 0 ≡ getD reals i 0 * dmp / total
+quotient-at dmp total [] i = sym (ap (λ n. n / total) (zero-mul dmp) ∙ zero-div total)
+quotient-at dmp total (r ∷ reals) zero = refl
+quotient-at dmp total (r ∷ reals) (suc i) = quotient-at dmp total reals i
+
+pub number-from : (stage : Stage) (dmp : ℕ) (xs : List Consumer) (p : ℕ) → closeNumberFrom stage dmp (sum (weightsOf xs)) (realsOf xs) p ≡ closeNumberBy stage dmp xs p
+unfolding closeNumberFrom closeNumberBy realsOf adjustedIn
+number-from stage dmp xs p =
+    ap (λ l. ranged (call.Close p) [] (staged Firm stage (pick (allAtMost greatestPower l) 0 14))) (from-reals dmp (sum (weightsOf xs)) xs ∙ as-adjusted dmp (sum (weightsOf xs)) xs)
 
 -- what is found from each consumer's DFA and declaration
 module _ (dmp : ℕ) (adjusted : List ℕ) (xs : List Consumer) (e : adjusted ≡ adjustedIn dmp xs) (n : length xs ≡ consumers) where
@@ -124,4 +152,4 @@ accepted-close stage dmp xs p e =
 -- a close that is refused returns the old book
 pub refused-close : (b : Book) (p : ℕ) {number : ℕ} → number ≡ closeNumber b p → (number ≡ 0 → ⊥) → closeOf b p ≡ record { number = number; book = b }
 unfolding closeOf
-refused-close b p {number} e h = rw (← e, ne-eqb number 0 h)
+refused-close b p e h = sym (refused-reply b (closed b p) e h)

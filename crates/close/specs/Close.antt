@@ -7,10 +7,9 @@ use Rattle.basis.specs.Choice.{pick}
 use Rattle.basis.specs.Sums.{sum, allAtMost}
 use Rattle.share.specs.Division.{divisionNumber, shares}
 use Rattle.quantities.specs.Limits.{greatestPower, consumers}
-use Rattle.record.specs.declared.calls.Call.the-variants as call
+use Rattle.table.specs.declared.calls.Call.the-variants as call
 use Rattle.state.specs.declared.kept.Stage.{Stage}
 use Rattle.state.specs.declared.kept.Stage.the-variants.{Firm, Closed}
-use Rattle.state.specs.declared.kept.Figures.{Figures}
 use Rattle.state.specs.declared.kept.Declaration.{Declaration}
 use Rattle.state.specs.declared.kept.Declaration.the-variants.{Undeclared, Declared}
 use Rattle.state.specs.declared.kept.Reading.{Reading}
@@ -26,6 +25,17 @@ use Rattle.fix.specs.Fix.{weightsOf}
 abbrev pub realOf : Reading → ℕ
 realOf Unread = 0
 realOf (Metered dreal) = dreal
+
+-- Dreal of each consumer, 0 of the undeclared, who have no DFA
+abbrev pub declaredReal : Declaration → Reading → ℕ
+declaredReal Undeclared reading = 0
+declaredReal (Declared f) reading = realOf reading
+
+abbrev pub realDemand : Consumer → ℕ
+realDemand x = declaredReal (x .declaration) (x .reading)
+
+unfoldable pub realsOf : List Consumer → List ℕ
+realsOf xs = map realDemand xs
 
 -- DFA = Dreal·DMP / ΣD
 abbrev pub adjustedBy : ℕ → ℕ → Reading → Declaration → ℕ
@@ -69,6 +79,12 @@ closeRest dmp xs = pick (allAtMost greatestPower (adjustedIn dmp xs)) 0 14
 -- close: 3, 4, 14
 unfoldable pub closeNumberBy : Stage → ℕ → List Consumer → ℕ → ℕ
 closeNumberBy stage dmp xs p = ranged (call.Close p) [] (staged Firm stage (closeRest dmp xs))
+
+-- the same, found from ΣD and the Dreal of all consumers: a step of the program
+unfoldable pub closeNumberFrom : Stage → ℕ → ℕ → List ℕ → ℕ → ℕ
+closeNumberFrom stage dmp total reals p =
+    ranged (call.Close p) []
+    (staged Firm stage (pick (allAtMost greatestPower (map (λ real. real * dmp / total) reals)) 0 14))
 
 abbrev pub closeNumber : Book → ℕ → ℕ
 closeNumber b p = closeNumberBy (b .stage) (b .dmp) (b .consumers) p

@@ -1,10 +1,12 @@
 // DFA, the adjusted demand of each consumer, and number 14.
 ghost use mathlib.Core.Path.{_≡_};
 ghost use mathlib.Core.Bool.{true};
+ghost use mathlib.Core.List.{map};
+ghost use Prim.Native.Nat.{_*_, _/_};
 ghost use Rattle.basis.specs.Sums.{sum, allAtMost};
 ghost use Rattle.quantities.specs.Limits.{greatestPower};
 ghost use Rattle.fix.specs.Fix.{weightsOf};
-ghost use Rattle.close.specs.Close.{realOf, adjustedOf, adjustedIn, closeRest};
+ghost use Rattle.close.specs.Close.{realOf, realDemand, realsOf, adjustedIn};
 use fix::declared;
 use quantities::CONSUMERS;
 use quantities::GREATEST_POWER;
@@ -13,7 +15,7 @@ use state::Declaration;
 use state::Reading;
 
 // What all consumers declared.
-pub(crate) fn total_declared(consumers: [Consumer; CONSUMERS]) -> u64
+pub fn total_declared(consumers: [Consumer; CONSUMERS]) -> u64
     ensures { λ r. ⌜ r ≡ sum (weightsOf consumers) ⌝ }
 {
     let mut total: u64 = 0;
@@ -27,8 +29,8 @@ pub(crate) fn total_declared(consumers: [Consumer; CONSUMERS]) -> u64
     total
 }
 
-// Real demand, 0 without a reading.
-fn real_demand(reading: Reading) -> u32
+// What was read, 0 without a reading.
+fn real_of(reading: Reading) -> u32
     ensures { λ r. ⌜ r ≡ realOf reading ⌝ }
 {
     match reading {
@@ -37,51 +39,57 @@ fn real_demand(reading: Reading) -> u32
     }
 }
 
-// DFA of a consumer, 0 if undeclared.
-fn adjusted_demand(dmp: u32, total: u64, x: Consumer) -> u64
-    ensures { λ r. ⌜ r ≡ adjustedOf dmp total x ⌝ }
+// Real demand of a consumer, 0 if undeclared.
+pub fn real_demand(x: Consumer) -> u32
+    ensures { λ r. ⌜ r ≡ realDemand x ⌝ }
 {
     let declaration = x.declaration;
     let reading = x.reading;
     match declaration {
         Declaration::Undeclared => 0,
-        Declaration::Declared(_) => {
-            if total == 0 {
-                return 0;
-            }
-            real_demand(reading) as u64 * dmp as u64 / total
-        }
+        Declaration::Declared(_) => real_of(reading),
     }
+}
+
+// Real demand of each consumer.
+pub fn real_demands(consumers: [Consumer; CONSUMERS]) -> [u32; CONSUMERS]
+    ensures { λ r. ⌜ r ≡ realsOf consumers ⌝ }
+{
+    let mut reals = [0u32; CONSUMERS];
+    let mut i = 0;
+    while i < CONSUMERS {
+        let x = consumers[i];
+        reals[i] = real_demand(x);
+        i += 1;
+    }
+    reals
+}
+
+// DFA by Dreal.
+fn adjusted_by(dmp: u32, total: u64, real: u32) -> u64
+    ensures { λ r. ⌜ r ≡ real * dmp / total ⌝ }
+{
+    if total == 0 {
+        return 0;
+    }
+    real as u64 * dmp as u64 / total
 }
 
 // The greatest DFA, kW.
 const GREATEST_DEMAND: u64 = GREATEST_POWER as u64;
 
 // Whether no DFA is above the greatest; the first that is decides.
-fn is_within(dmp: u32, total: u64, consumers: [Consumer; CONSUMERS]) -> bool
-    requires { ⌜ total ≡ sum (weightsOf consumers) ⌝ }
-    ensures { λ r. ⌜ r ≡ allAtMost greatestPower (adjustedIn dmp consumers) ⌝ }
+pub(crate) fn is_within(dmp: u32, total: u64, reals: &[u32]) -> bool
+    ensures { λ r. ⌜ r ≡ allAtMost greatestPower (map (λ real. real * dmp / total) (now (reals .entry))) ⌝ }
 {
     let mut i = 0;
-    while i < CONSUMERS {
-        let x = consumers[i];
-        if GREATEST_DEMAND < adjusted_demand(dmp, total, x) {
+    while i < reals.len() {
+        if GREATEST_DEMAND < adjusted_by(dmp, total, reals[i]) {
             return false;
         }
         i += 1;
     }
     true
-}
-
-// What is left of a close's number behind 3 and 4: 14, or 0.
-pub(crate) fn close_rest(dmp: u32, consumers: [Consumer; CONSUMERS]) -> u32
-    ensures { λ r. ⌜ r ≡ closeRest dmp consumers ⌝ }
-{
-    let total = total_declared(consumers);
-    if is_within(dmp, total, consumers) {
-        return 0;
-    }
-    14
 }
 
 // DFA of each consumer, once none is above the greatest.
@@ -93,7 +101,7 @@ pub(crate) fn adjusted(dmp: u32, total: u64, consumers: [Consumer; CONSUMERS]) -
     let mut i = 0;
     while i < CONSUMERS {
         let x = consumers[i];
-        adjusted[i] = adjusted_demand(dmp, total, x) as u32;
+        adjusted[i] = adjusted_by(dmp, total, real_demand(x)) as u32;
         i += 1;
     }
     adjusted

@@ -4,16 +4,15 @@ ghost use mathlib.Core.Bool.{true};
 ghost use Prim.Native.Nat.{_≤_};
 ghost use Rattle.basis.specs.Sums.{allAtMost};
 ghost use Rattle.quantities.specs.Limits.{greatestPower, greatestPrice};
-ghost use Rattle.close.specs.Close.{adjustedIn, figuresOf, closed, closeNumberBy, closeOf};
+ghost use Rattle.close.specs.Close.{adjustedIn, figuresOf, closed, closeNumberFrom, closeOf};
 use crate::adjusted::adjusted;
-use crate::adjusted::close_rest;
+use crate::adjusted::is_within;
+use crate::adjusted::real_demands;
 use crate::adjusted::total_declared;
 use crate::money::charges;
 use crate::money::surpluses;
 use crate::money::total_of;
 use quantities::CONSUMERS;
-use record::Call;
-use record::call_number;
 use state::Book;
 use state::CloseFigures;
 use state::Consumer;
@@ -21,6 +20,8 @@ use state::FIRM;
 use state::Reply;
 use state::Stage;
 use state::stage_number;
+use table::Call;
+use table::call_number;
 
 // The figures of a close at P, once no DFA is above the greatest.
 fn figures(p: u32, dmp: u32, consumers: [Consumer; CONSUMERS]) -> CloseFigures
@@ -73,9 +74,9 @@ fn closed(book: Book, p: u32) -> Book
     }
 }
 
-// The number of a close: 3, 4, 14, or 0. Nothing is changed.
-pub fn close_number(stage: Stage, dmp: u32, consumers: [Consumer; CONSUMERS], p: u32) -> u32
-    ensures { λ r. ⌜ r ≡ closeNumberBy stage dmp consumers p ⌝ }
+// The number of a close, from ΣD and the real demand of each consumer: 3, 4, 14, or 0. Nothing is changed.
+pub fn close_number(stage: Stage, dmp: u32, total: u64, reals: &[u32], p: u32) -> u32
+    ensures { λ r. ⌜ r ≡ closeNumberFrom stage dmp total (now (reals .entry)) p ⌝ }
 {
     let number = call_number(Call::Close { p }, b"");
     if number != 0 {
@@ -84,7 +85,10 @@ pub fn close_number(stage: Stage, dmp: u32, consumers: [Consumer; CONSUMERS], p:
     if stage_number(stage) != FIRM {
         return 4;
     }
-    close_rest(dmp, consumers)
+    if is_within(dmp, total, reals) {
+        return 0;
+    }
+    14
 }
 
 // The close at P cents per kW-month.
@@ -93,7 +97,9 @@ pub fn close(book: Book, p: u32) -> Reply
 {
     let stage = book.stage;
     let consumers = book.consumers;
-    let number = close_number(stage, book.dmp, consumers, p);
+    let total = total_declared(consumers);
+    let reals = real_demands(consumers);
+    let number = close_number(stage, book.dmp, total, &reals, p);
     if number != 0 {
         return Reply { number, book };
     }

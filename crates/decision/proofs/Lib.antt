@@ -1,4 +1,4 @@
--- Laws of the decision of a call.
-pub mod Placed
+-- Laws of the calls of a consumer and of a contract.
 pub mod Refusals
 pub mod Rows
+pub mod Settled

@@ -11,7 +11,8 @@ use Rattle.quantities.specs.Limits.{greatestPower, units, producers, consumers}
 use Rattle.plant.specs.Offer.{firmOffer}
 use Rattle.plant.specs.Efficient.{chosenYear, efficientOffers}
 use Rattle.plant.specs.declared.offer.Hours.{Hours}
-use Rattle.record.specs.declared.calls.Call.the-variants as call
+use Rattle.table.specs.declared.calls.Call.the-variants as call
+use Rattle.state.specs.declared.kept.Stage.{Stage}
 use Rattle.state.specs.declared.kept.Stage.the-variants.{Gathering, Firm}
 use Rattle.state.specs.declared.kept.Enrolment.{Enrolment}
 use Rattle.state.specs.declared.kept.Enrolment.the-variants.{Vacant, Enrolled}
@@ -83,8 +84,11 @@ abbrev pub fixRest : ℕ → List Consumer → ℕ
 fixRest dmp xs = divisionNumber dmp (weightsOf xs) consumers
 
 -- fix: 3, 4, 13
-unfoldable pub fixNumber : Book → ℕ → ℕ
-fixNumber b dmp = ranged (call.Fix dmp) [] (staged Gathering (b .stage) (fixRest dmp (b .consumers)))
+unfoldable pub fixNumberBy : Stage → List Consumer → ℕ → ℕ
+fixNumberBy stage xs dmp = ranged (call.Fix dmp) [] (staged Gathering stage (fixRest dmp xs))
+
+abbrev pub fixNumber : Book → ℕ → ℕ
+fixNumber b dmp = fixNumberBy (b .stage) (b .consumers) dmp
 
 -- "fix leads to firm"; DF "divides DMP by D"
 unfoldable pub fixed : Book → ℕ → Book

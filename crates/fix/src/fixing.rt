@@ -1,8 +1,7 @@
 // The fix: range, stage, the division of DMP, and the book of the firm year.
 ghost use mathlib.Core.Path.{_≡_};
 ghost use Rattle.share.specs.Division.{shares};
-ghost use Rattle.state.specs.State.{replyOf};
-ghost use Rattle.fix.specs.Fix.{weightsOf, fixRest, fixed, fixOf};
+ghost use Rattle.fix.specs.Fix.{weightsOf, fixRest, fixNumberBy, fixed, fixOf};
 use crate::demands::narrow;
 use crate::demands::weights;
 use crate::demands::with_demands;
@@ -10,13 +9,14 @@ use crate::offers::efficient;
 use crate::offers::limits;
 use crate::offers::offers;
 use quantities::CONSUMERS;
-use record::Call;
-use record::call_number;
 use state::Book;
+use state::Consumer;
 use state::GATHERING;
 use state::Reply;
 use state::Stage;
 use state::stage_number;
+use table::Call;
+use table::call_number;
 
 // The book of the firm year, once DMP is divided.
 fn fixed(book: Book, dmp: u32, demands: [u32; CONSUMERS]) -> Book
@@ -46,33 +46,43 @@ fn fixed(book: Book, dmp: u32, demands: [u32; CONSUMERS]) -> Book
     }
 }
 
-// The division of DMP by D: 13, or the book of the firm year.
-fn divided(book: Book, dmp: u32) -> Reply
-    ensures { λ r. ⌜ r ≡ replyOf (fixRest dmp (book .consumers)) book (fixed book dmp) ⌝ }
+// The division of DMP by D, once no number is met.
+fn divided(dmp: u32, consumers: [Consumer; CONSUMERS]) -> [u32; CONSUMERS]
+    requires { ⌜ fixRest dmp consumers ≡ 0 ⌝ }
+    ensures { λ r. ⌜ r ≡ shares dmp (weightsOf consumers) ⌝ }
 {
-    let consumers = book.consumers;
     let weights = weights(consumers);
     let mut amounts = [0u64; CONSUMERS];
-    let number = share::divide(dmp as u64, &weights, &mut amounts);
+    share::divide(dmp as u64, &weights, &mut amounts);
+    narrow(amounts)
+}
+
+// The number of a fix: 3, 4, 13, or 0. Nothing is changed.
+pub fn fix_number(stage: Stage, consumers: [Consumer; CONSUMERS], dmp: u32) -> u32
+    ensures { λ r. ⌜ r ≡ fixNumberBy stage consumers dmp ⌝ }
+{
+    let number = call_number(Call::Fix { dmp }, b"");
     if number != 0 {
-        return Reply { number, book };
+        return number;
     }
-    let demands = narrow(amounts);
-    let book = fixed(book, dmp, demands);
-    Reply { number: 0, book }
+    if stage_number(stage) != GATHERING {
+        return 4;
+    }
+    let weights = weights(consumers);
+    share::division_number(dmp as u64, &weights, CONSUMERS)
 }
 
 // The fix at a projected maximum demand DMP, kW.
 pub fn fix(book: Book, dmp: u32) -> Reply
     ensures { λ r. ⌜ r ≡ fixOf book dmp ⌝ }
 {
-    let number = call_number(Call::Fix { dmp }, b"");
+    let stage = book.stage;
+    let consumers = book.consumers;
+    let number = fix_number(stage, consumers, dmp);
     if number != 0 {
         return Reply { number, book };
     }
-    let stage = book.stage;
-    if stage_number(stage) != GATHERING {
-        return Reply { number: 4, book };
-    }
-    divided(book, dmp)
+    let demands = divided(dmp, consumers);
+    let book = fixed(book, dmp, demands);
+    Reply { number: 0, book }
 }

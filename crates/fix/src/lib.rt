@@ -5,3 +5,4 @@ mod offers; // offers.rt: the offers of all units, and what each producer may co
 
 pub use demands::declared;
 pub use fixing::fix;
+pub use fixing::fix_number;

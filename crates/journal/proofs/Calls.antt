@@ -1,10 +1,9 @@
 -- The run's book is the book after the list of the calls that it read.
 use mathlib.Core.Path.{_≡_, refl, sym, ap, _∙_}
 use mathlib.Core.List.{List, [], _∷_}
-use Prim.Native.Nat.{ℕ, zero, suc, _+_}
-use native.Mathlib.Omega.{arith}
+use Prim.Native.Nat.{ℕ, zero, suc}
 use lib.ListN.{length}
-use Rattle.record.specs.declared.calls.Call.{Call}
+use Rattle.table.specs.declared.calls.Call.{Call}
 use Rattle.record.specs.declared.reading.Read.{Read}
 use Rattle.record.specs.declared.reading.Read.the-variants.{End, Cut, Unknown, Record}
 use Rattle.record.specs.Reading.{readAt, partOf}

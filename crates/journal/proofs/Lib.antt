@@ -5,4 +5,5 @@ pub mod Counts
 pub mod Calls
 pub mod Refusals
 pub mod Stops
+pub mod Ready
 pub mod Underway

@@ -1,29 +1,29 @@
 -- What a record that was read says of the journal, and that what stands behind it does not matter.
 use mathlib.Core.Path.{_≡_, refl, sym, ap, _∙_}
 use mathlib.Core.Bool.{Bool, true, false}
-use mathlib.Core.List.{List, [], _∷_, _++_}
+use mathlib.Core.List.{List, _++_}
 use Prim.Native.Nat.{ℕ, _+_, _-_, _≤_, _<_}
 use native.Mathlib.Omega.{arith}
-use borrow.Author.Tests.{le-leb, leb-true}
+use borrow.Author.Tests.{leb-true}
 use lib.Dec.{leb, ltb}
 use lib.ListN.{length, take, drop, length-append, length-drop}
 use lib.Seq.{take-append-le, drop-append-le}
 use Rattle.basis.specs.Choice.{pick}
 use Rattle.basis.specs.Numbers.{number, numberAt}
-use Rattle.record.specs.Calls.{callOf}
-use Rattle.record.specs.Fields.{decode}
-use Rattle.record.specs.Forms.{formOf, markAt}
+use Rattle.table.specs.Calls.{callOf}
+use Rattle.table.specs.Fields.{decode}
+use Rattle.table.specs.Forms.{formOf, markAt}
 use Rattle.record.specs.Reading.{readCall, readMarked, readFound, readAt, partOf}
-use Rattle.record.specs.declared.calls.Call.{Call}
-use Rattle.record.specs.declared.forms.Found.{Found}
-use Rattle.record.specs.declared.forms.Found.the-variants.{Nothing, One}
-use Rattle.record.specs.declared.forms.Mark.{Mark}
+use Rattle.table.specs.declared.calls.Call.{Call}
+use Rattle.table.specs.declared.forms.Found.{Found}
+use Rattle.table.specs.declared.forms.Found.the-variants.{Nothing, One}
+use Rattle.table.specs.declared.forms.Mark.{Mark}
 use Rattle.record.specs.declared.reading.Read.{Read}
 use Rattle.record.specs.declared.reading.Read.the-variants.{End, Cut, Unknown, Record}
-use Rattle.record.proofs.Codec.{decode-append}
+use Rattle.table.proofs.Codec.{decode-append}
 use Rattle.record.proofs.Reader.{part-of}
 use Rattle.record.proofs.Shows.{Shows, read-shows, shows-read}
-use Rattle.record.proofs.Table.{lawful}
+use Rattle.table.proofs.Table.{lawful}
 
 module _ (s : List ℕ) (at : ℕ) {from next : ℕ} {c : Call} (e : readAt s at ≡ Record c from next) where
   shows : Shows s at c from next

@@ -1,27 +1,26 @@
 -- The first refused place that a run names.
 use mathlib.Core.Path.{_≡_, refl, sym, ap, _∙_}
 use mathlib.Core.Bool.{Bool, true, false}
-use mathlib.Core.List.{List, [], _∷_}
+use mathlib.Core.List.{List, _∷_}
 use Prim.Native.Nat.{ℕ, zero, suc, _+_, _<_}
 use native.Mathlib.Omega.{arith}
 use borrow.Author.Tests.{eqb-true, eqb-false}
 use lib.Dec.{eqb}
 use lib.ListN.{length, getD}
-use Rattle.record.specs.declared.calls.Call.{Call}
+use Rattle.table.specs.declared.calls.Call.{Call}
 use Rattle.record.specs.declared.reading.Read.{Read}
 use Rattle.record.specs.declared.reading.Read.the-variants.{End, Cut, Unknown, Record}
 use Rattle.record.specs.Reading.{readAt, partOf}
 use Rattle.state.specs.declared.kept.Reply.{Reply}
 use Rattle.book.specs.Step.{stepOf}
-use Rattle.book.specs.Lists.{Event}
 use Rattle.journal.specs.declared.outcome.FirstRefused.{FirstRefused}
 use Rattle.journal.specs.declared.outcome.FirstRefused.the-variants.{Nothing, At}
 use Rattle.journal.specs.declared.outcome.Run.{Run}
-use Rattle.journal.specs.Run.{started, refusedAt, answered, stopped, runFrom, runOf}
+use Rattle.journal.specs.Run.{started, refusedAt, answered, runFrom, runOf}
 use Rattle.journal.specs.Calls.{callsFrom, placesFrom, callsOf, recordPlaces, numbersAfter, replyNumbers, FirstRefusedAt}
 use Rattle.journal.proofs.Turns.{turned, run-end, run-cut, run-unknown, run-record}
 use Rattle.journal.proofs.Counts.{run-keeps}
-use Rattle.journal.proofs.Calls.{event, calls-record, places-record}
+use Rattle.journal.proofs.Calls.{calls-record, places-record}
 
 -- none is named exactly where none was refused
 pub record Naming (r : Run) : Type 0 where

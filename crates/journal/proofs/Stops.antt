@@ -1,15 +1,14 @@
 -- Where a run ends, and what stands there.
-use mathlib.Core.Path.{_≡_, refl, sym, ap, _∙_}
+use mathlib.Core.Path.{_≡_, refl}
 use mathlib.Core.List.{List}
 use Prim.Native.Nat.{ℕ, zero, suc, _+_, _-_, _≤_, _<_}
-use native.Mathlib.Nat.{le-refl}
 use native.Mathlib.Omega.{arith}
 use lib.ListN.{length}
 use Rattle.record.specs.declared.reading.Read.{Read}
 use Rattle.record.specs.declared.reading.Read.the-variants.{End, Cut, Unknown, Record}
 use Rattle.record.specs.Reading.{readAt}
 use Rattle.journal.specs.declared.outcome.Run.{Run}
-use Rattle.journal.specs.Run.{started, stopped, runFrom, runOf}
+use Rattle.journal.specs.Run.{started, runFrom, runOf}
 use Rattle.journal.specs.Calls.{callsFrom, callsOf}
 use Rattle.journal.specs.Promises.{Ends, RunEnds, ReadLength}
 use Rattle.journal.proofs.Reading.{next-above, next-within, end-behind}

@@ -1,17 +1,17 @@
 -- Turns of the run: what each case of the reading gives, and that as many turns as are enough give the same.
 use mathlib.Core.Path.{_≡_, refl, sym, ap, _∙_}
-use mathlib.Core.List.{List, [], _∷_, _++_}
-use Prim.Native.Nat.{ℕ, zero, suc, _+_, _-_, _≤_, _<_}
+use mathlib.Core.List.{List, _++_}
+use Prim.Native.Nat.{ℕ, zero, suc, _+_, _-_, _<_}
 use native.Mathlib.Omega.{arith}
-use lib.ListN.{length, length-append}
-use Rattle.record.specs.declared.calls.Call.{Call}
+use lib.ListN.{length}
+use Rattle.table.specs.declared.calls.Call.{Call}
 use Rattle.record.specs.declared.reading.Read.{Read}
 use Rattle.record.specs.declared.reading.Read.the-variants.{End, Cut, Unknown, Record}
 use Rattle.record.specs.Reading.{readAt, partOf}
 use Rattle.book.specs.Step.{stepOf}
 use Rattle.journal.specs.declared.outcome.Run.{Run}
 use Rattle.journal.specs.Run.{started, answered, stopped, runFrom, runOf}
-use Rattle.journal.proofs.Reading.{next-above, next-within, read-more, part-more, at-end}
+use Rattle.journal.proofs.Reading.{next-above, next-within, read-more, part-more}
 
 -- the run after the record at its place
 abbrev pub turned : List ℕ → Run → Call → ℕ → ℕ → Run

@@ -2,27 +2,22 @@
 use mathlib.Core.Path.{_≡_, refl, sym, ap, _∙_}
 use mathlib.Core.Bool.{Bool, true, false}
 use mathlib.Core.List.{List}
-use Prim.Native.Nat.{ℕ, suc, _+_, _-_, _^_, _≤_, _<_}
+use Prim.Native.Nat.{ℕ, _+_, _-_, _^_, _≤_, _<_}
 use native.Mathlib.Omega.{arith}
 use lib.Dec.{eqb}
-use lib.ListN.{length, getD}
+use lib.ListN.{length}
 use Rattle.basis.specs.Choice.{pick}
-use Rattle.record.specs.declared.calls.Call.{Call}
+use Rattle.table.specs.declared.calls.Call.{Call}
 use Rattle.record.specs.declared.reading.Read.{Read}
 use Rattle.record.specs.declared.reading.Read.the-variants.{End, Cut, Unknown, Record}
 use Rattle.record.specs.Reading.{readAt, stopNumber, partOf}
 use Rattle.state.specs.declared.kept.Book.{Book}
 use Rattle.state.specs.declared.kept.Reply.{Reply}
-use Rattle.decision.specs.declared.changes.Change.{Change}
-use Rattle.decision.specs.declared.changes.Places.{Places}
-use Rattle.state.specs.State.{freshUnit, freshConsumer, freshBook}
+use Rattle.state.specs.State.{freshBook}
 use Rattle.book.specs.Step.{stepOf}
-use Rattle.decision.specs.Changes.{placesOf, decideOf, decidedIn}
-use Rattle.book.specs.Settlement.{settledOf}
-use Rattle.book.proofs.Settled.{step-law}
 use Rattle.journal.specs.declared.outcome.Run.{Run}
 use Rattle.journal.specs.declared.outcome.Tally.{Tally}
-use Rattle.journal.specs.Run.{started, answered, stopped, runFrom, runOf}
+use Rattle.journal.specs.Run.{started, answered, stopped, runOf}
 use Rattle.journal.specs.Tally.{noTally, tallied, runWith}
 use Rattle.journal.proofs.Reading.{next-above, next-within}
 use Rattle.journal.proofs.Turns.{turned, runOn, on-record, run-end, run-cut, run-unknown}
@@ -59,13 +54,6 @@ module _ {s : List ℕ} {r : Run} (u : Underway s r) where
   ends Cut e z h = sym (run-cut (length s) s r e) ∙ u .same
   ends Unknown e z h = sym (run-unknown (length s) s r e) ∙ u .same
   ends (Record c from next) e z h = absurd (h c from next refl)
-
--- what was decided, settled in the book, is the call's step
-pub settles : (b : Book) (c : Call) (at : Places) (part : List ℕ) {change : Change} → at ≡ placesOf c → change ≡ decideOf c (b .stage) (getD (b .consumers) (at .consumer) freshConsumer) (getD (b .units) (at .unit) freshUnit) (b .balances) (b .limits) part → settledOf b at change ≡ stepOf b c part
-settles b c at part p d =
-    ap (settledOf b at) d
-    ∙ ap (λ (q : Places). settledOf b q (decideOf c (b .stage) (getD (b .consumers) (q .consumer) freshConsumer) (getD (b .units) (q .unit) freshUnit) (b .balances) (b .limits) part)) p
-    ∙ step-law b c part
 
 -- one turn of a tally and a book
 module _ {s : List ℕ} {t : Tally} {b : Book} (u : Underway s (runWith t b 0)) {c : Call} {from next : ℕ} (e : readAt s (t .place) ≡ Record c from next) where

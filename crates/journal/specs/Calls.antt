@@ -3,7 +3,6 @@ use mathlib.Core.Path.{_≡_}
 use mathlib.Core.List.{List, [], _∷_}
 use Prim.Native.Nat.{ℕ, zero, suc, _<_}
 use lib.ListN.{length, getD}
-use Rattle.record.specs.declared.reading.Read.{Read}
 use Rattle.record.specs.declared.reading.Read.the-variants.{End, Cut, Unknown, Record}
 use Rattle.record.specs.Reading.{readAt, partOf}
 use Rattle.state.specs.declared.kept.Book.{Book}

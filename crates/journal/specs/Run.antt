@@ -1,11 +1,9 @@
 -- The run over a journal ("Journal records").
-use mathlib.Core.Bool.{Bool}
 use mathlib.Core.List.{List, [], _∷_}
 use Prim.Native.Nat.{ℕ, zero, suc, _+_}
 use lib.Dec.{eqb}
 use lib.ListN.{length}
 use Rattle.basis.specs.Choice.{pick}
-use Rattle.record.specs.declared.reading.Read.{Read}
 use Rattle.record.specs.declared.reading.Read.the-variants.{End, Cut, Unknown, Record}
 use Rattle.record.specs.Reading.{readAt, stopNumber, partOf}
 use Rattle.state.specs.declared.kept.Reply.{Reply}

@@ -1,3 +1,2 @@
 -- Laws of the listing.
-pub mod Owners
 pub mod Answers

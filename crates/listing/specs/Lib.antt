@@ -1,3 +1,2 @@
 -- Definitions of the listing, in the order of document 01.
-pub mod Letters
 pub mod Listing

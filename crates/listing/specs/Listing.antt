@@ -14,7 +14,7 @@ use Rattle.journal.specs.declared.outcome.Run.{Run}
 use Rattle.journal.specs.Run.{runOf}
 use Rattle.listing.specs.declared.Listed.{Listed}
 use Rattle.text.specs.Text.{lineMost, lineOf, plain}
-use Rattle.listing.specs.Letters.{unitLines, ownersOf, producerLines, demandLines, settlementLines}
+use Rattle.letters.specs.Letters.{unitLines, ownersOf, producerLines, demandLines, settlementLines}
 
 -- U, P, D
 unfoldable pub firmLines : Book → List ℕ

@@ -1,10 +1,8 @@
 // The listing of a run, line by line ("Journal in, listing out").
 mod face; // face.rt: the listing of a journal, as C calls it
-mod letters; // letters.rt: the lines of each letter
 mod lines; // lines.rt: the listing, letter after letter
 mod output; // output.rt: what the program writes for its input
 
-ghost use mathlib.Core.Path.{_≡_};
 ghost use Rattle.listing.specs.Listing.{listingOf, Lists};
 pub use face::yearbook_list;
 use journal::Run;

@@ -1,2 +1,3 @@
 -- Laws of the questions.
 pub mod Owned
+pub mod Values

@@ -23,7 +23,7 @@ use Rattle.questions.specs.declared.Adjustment.{Adjustment}
 use Rattle.questions.specs.declared.Adjustment.the-variants.{Unsettled, Settled}
 use Rattle.questions.specs.declared.CloseTotals.{CloseTotals}
 use Rattle.state.specs.State.{stageNumber, unitAt, consumerAt}
-use Rattle.decision.specs.Firm.{producerBalance}
+use Rattle.decision.specs.Contracts.{producerBalance}
 
 -- line U: an enrolled unit's offer and efficient offer
 abbrev pub offersBy : Enrolment → ℕ → ℕ → UnitOffers

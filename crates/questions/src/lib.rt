@@ -1,6 +1,10 @@
 // What a listing or a screen asks of a book. A number out of its range has the answer of one that is not there.
 ghost use mathlib.Core.Path.{_≡_};
-ghost use Rattle.questions.specs.Questions.{ownedBy, hasUnit, offersBy, unitOffersOf, producerTotalsOf, declarationOf, signedOf, adjustmentBy, adjustmentOf, closeTotalsOf};
+ghost use Rattle.state.specs.State.{stageNumber};
+ghost use Rattle.questions.specs.Questions.{ownedBy, hasUnit, offersBy, signedOf, adjustmentBy};
+ghost use Rattle.questions.specs.Questions.{unitOffersOf, producerTotalsOf, declarationOf, adjustmentOf, closeTotalsOf};
+ghost use Rattle.questions.specs.Values.{unitValues, producerValues, declarationValues, adjustmentValues};
+ghost use Rattle.questions.specs.Values.{unitFigures, producerFigures, declarationFigures, adjustmentFigures};
 use decision::producer_balance;
 use quantities::CONSUMERS;
 use quantities::PRODUCERS;
@@ -50,10 +54,10 @@ pub struct CloseTotals {
 
 // The stage of a book.
 pub fn stage_of(book: Book) -> Stage
-    ensures { λ r. ⌜ r ≡ book .stage ⌝ }
+    ensures { λ r. ⌜ (r ≡ book .stage) × (stageNumber r ≡ stageNumber (book .stage)) ⌝ }
 {
-    let stage = book.stage;
-    stage
+    let current = book.stage;
+    current
 }
 
 // The offers, if the unit is enrolled.
@@ -68,7 +72,7 @@ fn offers_by(enrolment: Enrolment, firm: u32, efficient: u32) -> UnitOffers
 
 // The firm and the efficient offer of a unit.
 pub fn unit_offers(book: Book, unit: u32) -> UnitOffers
-    ensures { λ r. ⌜ r ≡ unitOffersOf book unit ⌝ }
+    ensures { λ r. ⌜ (r ≡ unitOffersOf book unit) × (unitValues r ≡ unitFigures book unit) ⌝ }
 {
     let n = unit as usize;
     if n < 1 {
@@ -111,7 +115,7 @@ fn has_unit(producer: u32, units: [Unit; UNITS]) -> bool
 
 // What a producer with a unit may commit, and what it has committed.
 pub fn producer_totals(book: Book, producer: u32) -> ProducerTotals
-    ensures { λ r. ⌜ r ≡ producerTotalsOf book producer ⌝ }
+    ensures { λ r. ⌜ (r ≡ producerTotalsOf book producer) × (producerValues r ≡ producerFigures book producer) ⌝ }
 {
     let n = producer as usize;
     if n < 1 {
@@ -132,19 +136,19 @@ pub fn producer_totals(book: Book, producer: u32) -> ProducerTotals
 
 // What a consumer declared, and its firm demand.
 pub fn declaration_of(book: Book, consumer: u32) -> Declaration
-    ensures { λ r. ⌜ r ≡ declarationOf book consumer ⌝ }
+    ensures { λ r. ⌜ (r ≡ declarationOf book consumer) × (declarationValues r ≡ declarationFigures book consumer) ⌝ }
 {
-    let n = consumer as usize;
-    if n < 1 {
+    let number = consumer as usize;
+    if number < 1 {
         return Declaration::Undeclared;
     }
-    if CONSUMERS < n {
+    if CONSUMERS < number {
         return Declaration::Undeclared;
     }
-    let i = n - 1;
+    let i = number - 1;
     let x = book.consumers[i];
-    let declaration = x.declaration;
-    declaration
+    let answer = x.declaration;
+    answer
 }
 
 // The difference of two figures.
@@ -173,7 +177,7 @@ fn adjustment_by(declaration: Declaration, dfa: u32, charge: u64, credit: u64) -
 
 // A consumer's adjustment, charge and credit after the close.
 pub fn adjustment_of(book: Book, consumer: u32) -> Adjustment
-    ensures { λ r. ⌜ r ≡ adjustmentOf book consumer ⌝ }
+    ensures { λ r. ⌜ (r ≡ adjustmentOf book consumer) × (adjustmentValues r ≡ adjustmentFigures book consumer) ⌝ }
 {
     let stage = book.stage;
     if stage_number(stage) != CLOSED {

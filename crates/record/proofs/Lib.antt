@@ -1,9 +1,6 @@
--- Laws of the journal's records, and the theorems.
+-- Laws of reading and writing, and the theorems.
 pub mod Turns
-pub mod Codec
-pub mod Table
-pub mod InRange
-pub mod Ranged
+pub mod Carried
 pub mod Reader
 pub mod Shows
 pub mod Writer

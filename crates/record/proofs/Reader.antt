@@ -4,17 +4,21 @@ use mathlib.Core.List.{List, []}
 use Prim.Native.Nat.{ℕ, _+_, _-_, _≤_, _<_}
 use native.Mathlib.Omega.{arith}
 use borrow.Author.Tests.{le-leb, lt-leb, lt-ltb, le-ltb}
-use lib.ListN.{length, take, drop}
+use lib.ListN.{length, take, drop, length-drop}
+use lib.Seq.{length-take-le}
 use Rattle.basis.specs.Numbers.{numberAt}
-use Rattle.record.specs.Calls.{callOf, readingsSize}
-use Rattle.record.specs.Fields.{decode}
-use Rattle.record.specs.Forms.{formOf, markAt}
+use Rattle.basis.specs.Sums.{sum}
+use Rattle.table.specs.Calls.{callOf, readingsSize}
+use Rattle.table.specs.Fields.{decode}
+use Rattle.table.specs.Forms.{formOf, markAt}
 use Rattle.record.specs.Reading.{readCall, readMarked, readFound, readAt, partOf}
-use Rattle.record.specs.declared.calls.Call.{Call}
-use Rattle.record.specs.declared.forms.Form.{Form}
-use Rattle.record.specs.declared.forms.Found.{Found}
-use Rattle.record.specs.declared.forms.Mark.{Mark}
+use Rattle.table.specs.declared.calls.Call.{Call}
+use Rattle.table.specs.declared.forms.Form.{Form}
+use Rattle.table.specs.declared.forms.Found.{Found}
+use Rattle.table.specs.declared.forms.Mark.{Mark}
 use Rattle.record.specs.declared.reading.Read.the-variants.{End, Cut, Record}
+use Rattle.table.proofs.Codec.{decode-part}
+use Rattle.table.proofs.Table.{lawful}
 
 pub at-end : (s : List ℕ) (at : ℕ) → length s ≤ at → End ≡ readAt s at
 unfolding readAt
@@ -37,12 +41,28 @@ module _ (s : List ℕ) (at : ℕ) (m : Mark) (f : Form) (e : f ≡ formOf m) wh
   unfolding readMarked
   cut-fields h = rw (lt-ltb (length s - at) (formOf m .size) (omega (arith, size-of)))
 
-  module _ (c : Call) (n : ℕ) (ec : c ≡ callOf m (decode (f .widths) (drop (at + 2) s))) (en : n ≡ readingsSize c) (h : f .size ≤ length s - at) where
+  module _ (h : f .size ≤ length s - at) where
+    -- the part of the journal that holds the fields has their bytes
+    pub fields-size : at < length s → length (take (at + f .size - (at + 2)) (drop (at + 2) s)) ≡ sum (formOf m .widths)
+    fields-size k =
+        let z : f .size ≡ 2 + sum (formOf m .widths) = size-of ∙ lawful m .size in
+        length-take-le (at + f .size - (at + 2)) (drop (at + 2) s) (omega (arith, length-drop (at + 2) s)) ∙ omega arith
+
+    -- so the call of those bytes is that of the journal
+    pub fields-call : (c : Call) → at < length s →
+        c ≡ callOf m (decode (formOf m .widths) (take (at + f .size - (at + 2)) (drop (at + 2) s))) →
+        c ≡ callOf m (decode (formOf m .widths) (drop (at + 2) s))
+    fields-call c k ec =
+        ec
+        ∙ ap (callOf m) (decode-part (formOf m .widths) (drop (at + 2) s) (at + f .size - (at + 2)) (omega (arith, fields-size k)))
+
+  module _ (c : Call) (n : ℕ)
+      (ec : c ≡ callOf m (decode (formOf m .widths) (drop (at + 2) s))) (en : n ≡ readingsSize c) (h : f .size ≤ length s - at) where
     read-call : readCall s at (formOf m .size) c ≡ readMarked s at m
     unfolding readMarked
     read-call =
         rw (le-ltb (length s - at) (formOf m .size) (omega (arith, size-of)))
-        (ap (λ (d : Call). readCall s at (formOf m .size) d) (ec ∙ ap (λ (g : Form). callOf m (decode (g .widths) (drop (at + 2) s))) e))
+        (ap (λ (d : Call). readCall s at (formOf m .size) d) ec)
 
     -- the readings are not there
     pub cut-readings : length s - at - f .size < n → Cut ≡ readMarked s at m
@@ -56,6 +76,12 @@ module _ (s : List ℕ) (at : ℕ) (m : Mark) (f : Form) (e : f ≡ formOf m) wh
     whole-record k =
         rw (size-of, en)
         (rw (le-ltb (length s - at) (formOf m .size + readingsSize c) (omega (arith, size-of))) at read-call)
+
+    -- and nothing behind the fields
+    pub fields-alone : n ≡ 0 → Record c (at + f .size) (at + f .size) ≡ readMarked s at m
+    fields-alone z =
+        let b : at + f .size ≡ at + f .size + n = omega arith in
+        ap (λ k. Record c (at + f .size) k) b ∙ whole-record (omega arith)
 
 pub no-part : (s : List ℕ) (from to : ℕ) → to < from → [] ≡ partOf s from to
 unfolding partOf

@@ -10,21 +10,22 @@ use lib.Seq.{take-at, drop-at, drop-drop, take-add, take-all, length-take-le, ta
 use Rattle.basis.specs.Numbers.{Bytes, number, bytesOf, numberAt, written}
 use Rattle.basis.specs.Sums.{sum}
 use Rattle.basis.proofs.Numbers.{length-bytesOf, number-bytesOf, bytesOf-number, bytes-take, bytes-drop}
-use Rattle.record.specs.Calls.{partsOf, callOf, readingsSize, fieldsSize, recordSize}
-use Rattle.record.specs.Fields.{encode, decode}
-use Rattle.record.specs.Forms.{formOf, marks, markAt}
-use Rattle.record.specs.Ranges.{fieldsInRange, callNumber}
+use Rattle.table.specs.Calls.{partsOf, callOf, readingsSize, fieldsSize, recordSize}
+use Rattle.table.specs.Fields.{encode, decode}
+use Rattle.table.specs.Forms.{formOf, leastOf, greatestOf, marks, markAt}
+use Rattle.table.specs.Ranges.{fieldsInRange, callNumber}
 use Rattle.record.specs.Reading.{readAt, partOf}
 use Rattle.record.specs.RoundTrip.{WrittenIsRead, ReadIsWritten, ReadIsPlaced, ReadIsAlone}
 use Rattle.record.specs.Writing.{carried, recordOf, writtenBy}
-use Rattle.record.specs.declared.calls.Call.{Call}
-use Rattle.record.specs.declared.forms.Mark.{Mark}
-use Rattle.record.specs.declared.forms.Found.the-variants.{One}
-use Rattle.record.proofs.Codec.{length-encode, decode-encode, encode-decode, decode-append}
-use Rattle.record.proofs.InRange.{in-range, length-carried}
+use Rattle.table.specs.declared.calls.Call.{Call}
+use Rattle.table.specs.declared.forms.Mark.{Mark}
+use Rattle.table.specs.declared.forms.Found.the-variants.{One}
+use Rattle.table.proofs.Codec.{length-encode, decode-encode, encode-decode, decode-append}
+use Rattle.table.proofs.InRange.{in-range}
+use Rattle.record.proofs.Carried.{length-carried}
 use Rattle.record.proofs.Reader.{part-of}
 use Rattle.record.proofs.Shows.{Shows, mark-found, read-shows, shows-read}
-use Rattle.record.proofs.Table.{lawful, of-parts}
+use Rattle.table.proofs.Table.{lawful, of-parts}
 use Rattle.record.proofs.Writer.{write-whole, write-put}
 
 -- the mark of a call's record, and its fields
@@ -72,8 +73,15 @@ module _ (c : Call) (rs : List ℕ) (e : callNumber c rs ≡ 0) where
     all-call =
         let f = formOf (partsOf c .mark) in
         let l = lawful (partsOf c .mark) in
-        rw (drop-at (front c) (fields c ++ (carried c rs ++ rest)) 2 (length-bytesOf 2 (f .mark)), decode-encode (f .widths) (f .least) (f .greatest) (partsOf c .values) (carried c rs ++ rest) (l .least-count ∙ sym (l .widths-count)) (of-parts c .count) (l .fits) (in-range c rs e .0))
-        (sym (of-parts c .again (in-range c rs e .0)))
+        let r = in-range c rs e .0 in
+        let d =
+        decode-encode (f .widths) (leastOf (partsOf c .mark)) (greatestOf (partsOf c .mark)) (partsOf c .values) (carried c rs ++ rest)
+        (l .least-count ∙ sym (l .widths-count))
+        (of-parts c .count)
+        (l .fits)
+        r
+        in
+        rw (drop-at (front c) (fields c ++ (carried c rs ++ rest)) 2 (length-bytesOf 2 (f .mark)), d) (sym (of-parts c .again r))
 
     all-size : recordSize c ≤ length all
     all-size = omega (arith, ap length all-record, length-append (recordOf c rs) rest, length-record)

@@ -9,18 +9,18 @@ use lib.Dec.{leb, ltb, eqb}
 use lib.ListN.{length, drop}
 use Rattle.basis.specs.Choice.{pick}
 use Rattle.basis.specs.Numbers.{numberAt}
-use Rattle.record.specs.Calls.{callOf, readingsSize}
-use Rattle.record.specs.Fields.{decode}
-use Rattle.record.specs.Forms.{formOf, findMark, markAt}
+use Rattle.table.specs.Calls.{callOf, readingsSize}
+use Rattle.table.specs.Fields.{decode}
+use Rattle.table.specs.Forms.{formOf, findMark, markAt}
 use Rattle.record.specs.Reading.{readCall, readMarked, readFound, readAt}
-use Rattle.record.specs.declared.calls.Call.{Call}
-use Rattle.record.specs.declared.forms.Found.{Found}
-use Rattle.record.specs.declared.forms.Found.the-variants.{Nothing, One}
-use Rattle.record.specs.declared.forms.Mark.{Mark}
+use Rattle.table.specs.declared.calls.Call.{Call}
+use Rattle.table.specs.declared.forms.Found.{Found}
+use Rattle.table.specs.declared.forms.Found.the-variants.{Nothing, One}
+use Rattle.table.specs.declared.forms.Mark.{Mark}
 use Rattle.record.specs.declared.reading.Read.{Read}
 use Rattle.record.specs.declared.reading.Read.the-variants.{End, Cut, Record}
 use Rattle.record.proofs.Reader.{at-two, whole-record}
-use Rattle.record.proofs.Table.{lawful}
+use Rattle.table.proofs.Table.{lawful}
 
 -- the mark of the record that was found
 pub mark-found : (x : ℕ) (ms : List Mark) (m : Mark) → findMark x ms ≡ One m → formOf m .mark ≡ x

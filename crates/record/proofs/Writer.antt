@@ -7,14 +7,14 @@ use borrow.Author.Tests.{eq-eqb, ne-eqb, lt-ltb, le-ltb}
 use lib.ListN.{length}
 use Rattle.basis.specs.Numbers.{bytesOf, written}
 use Rattle.basis.proofs.Numbers.{written-append, length-written}
-use Rattle.record.specs.Calls.{partsOf, recordSize}
-use Rattle.record.specs.Fields.{encode}
-use Rattle.record.specs.Forms.{formOf}
-use Rattle.record.specs.Ranges.{callNumber}
+use Rattle.table.specs.Calls.{partsOf, recordSize}
+use Rattle.table.specs.Fields.{encode}
+use Rattle.table.specs.Forms.{formOf}
+use Rattle.table.specs.Ranges.{callNumber}
 use Rattle.record.specs.Writing.{carried, recordOf, writeNumber, writtenBy}
-use Rattle.record.specs.declared.calls.Call.{Call}
-use Rattle.record.specs.declared.calls.Parts.{Parts}
-use Rattle.record.specs.declared.forms.Form.{Form}
+use Rattle.table.specs.declared.calls.Call.{Call}
+use Rattle.table.specs.declared.calls.Parts.{Parts}
+use Rattle.table.specs.declared.forms.Form.{Form}
 
 -- three pieces at the start of a buffer
 pub three-written : (out a b c : List ℕ) (p q : ℕ) → length a ≡ p → p + length b ≡ q → q ≤ length out → written (written (written out 0 a) p b) q c ≡ written out 0 (a ++ (b ++ c))

@@ -5,13 +5,13 @@ use lib.Dec.{leb, ltb}
 use lib.ListN.{length, take, drop}
 use Rattle.basis.specs.Choice.{pick}
 use Rattle.basis.specs.Numbers.{numberAt}
-use Rattle.record.specs.Calls.{callOf, readingsSize}
-use Rattle.record.specs.Fields.{decode}
-use Rattle.record.specs.Forms.{formOf, markAt}
-use Rattle.record.specs.declared.calls.Call.{Call}
-use Rattle.record.specs.declared.forms.Mark.{Mark}
-use Rattle.record.specs.declared.forms.Found.{Found}
-use Rattle.record.specs.declared.forms.Found.the-variants.{Nothing, One}
+use Rattle.table.specs.Calls.{callOf, readingsSize}
+use Rattle.table.specs.Fields.{decode}
+use Rattle.table.specs.Forms.{formOf, markAt}
+use Rattle.table.specs.declared.calls.Call.{Call}
+use Rattle.table.specs.declared.forms.Mark.{Mark}
+use Rattle.table.specs.declared.forms.Found.{Found}
+use Rattle.table.specs.declared.forms.Found.the-variants.{Nothing, One}
 use Rattle.record.specs.declared.reading.Read.{Read}
 use Rattle.record.specs.declared.reading.Read.the-variants.{End, Cut, Unknown, Record}
 

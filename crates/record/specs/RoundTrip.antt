@@ -4,11 +4,11 @@ use mathlib.Core.List.{List, _++_}
 use Prim.Native.Nat.{ℕ, _-_, _≤_, _<_}
 use lib.ListN.{length, take, drop}
 use Rattle.basis.specs.Numbers.{Bytes, written}
-use Rattle.record.specs.Calls.{fieldsSize, recordSize}
-use Rattle.record.specs.Ranges.{callNumber}
+use Rattle.table.specs.Calls.{fieldsSize, recordSize}
+use Rattle.table.specs.Ranges.{callNumber}
 use Rattle.record.specs.Reading.{readAt, partOf}
 use Rattle.record.specs.Writing.{carried, writeNumber, writtenBy}
-use Rattle.record.specs.declared.calls.Call.{Call}
+use Rattle.table.specs.declared.calls.Call.{Call}
 use Rattle.record.specs.declared.reading.Read.the-variants.{Record}
 
 -- a call is accepted and reads back at the buffer's start as that call, with those readings and the next place behind it; what

@@ -5,11 +5,11 @@ use lib.Dec.{eqb, ltb}
 use lib.ListN.{length, take}
 use Rattle.basis.specs.Choice.{pick}
 use Rattle.basis.specs.Numbers.{bytesOf, written}
-use Rattle.record.specs.Calls.{partsOf, readingsSize, recordSize}
-use Rattle.record.specs.Fields.{encode}
-use Rattle.record.specs.Forms.{formOf}
-use Rattle.record.specs.Ranges.{callNumber}
-use Rattle.record.specs.declared.calls.Call.{Call}
+use Rattle.table.specs.Calls.{partsOf, readingsSize, recordSize}
+use Rattle.table.specs.Fields.{encode}
+use Rattle.table.specs.Forms.{formOf}
+use Rattle.table.specs.Ranges.{callNumber}
+use Rattle.table.specs.declared.calls.Call.{Call}
 
 -- the readings that a call's record carries: of those lent, as many bytes as the call says
 abbrev pub carried : Call → List ℕ → List ℕ

@@ -3,14 +3,14 @@ ghost use mathlib.Core.Path.{_≡_};
 ghost use Prim.Native.Nat.{_<_, _+_};
 ghost use lib.ListN.{length};
 ghost use Rattle.record.specs.Reading.{readMarked, readAt, stopNumber, partOf};
-use crate::calls::Call;
-use crate::calls::call_of;
-use crate::calls::readings_behind;
-use crate::fields::fields_at;
-use crate::forms::Found;
-use crate::forms::Mark;
-use crate::forms::form_of;
-use crate::forms::mark_at;
+use crate::built::call_of;
+use crate::sizes::readings_behind;
+use table::Call;
+use table::Found;
+use table::Mark;
+use table::form_of;
+use table::mark_at;
+use table::parts_of;
 
 // What stands at a place: nothing, a record that is cut short, an unknown mark, or a whole record.
 pub enum Read {
@@ -32,20 +32,29 @@ pub fn read_marked(journal: &[u8], at: usize, mark: Mark) -> Read
 {
     let form = form_of(mark);
     let size = form.size;
-    let widths = form.widths;
     let left = journal.len() - at;
     if left < size {
         return Read::Cut;
     }
-    let values = fields_at(journal, at + 2, widths);
+    let end = at + size;
+    let call = call_of(mark, &journal[at + 2..end]);
+    if form.reading_width == 0 {
+        return Read::Record {
+            call,
+            readings: end,
+            next: end,
+        };
+    }
+    let parts = parts_of(call);
+    let values = parts.values;
     let more = readings_behind(form.reading_width, values);
     if left - size < more {
         return Read::Cut;
     }
     Read::Record {
-        call: call_of(mark, values),
-        readings: at + size,
-        next: at + size + more,
+        call,
+        readings: end,
+        next: end + more,
     }
 }
 

@@ -5,20 +5,20 @@ ghost use Prim.Native.Nat.{_+_, _≤_};
 ghost use lib.ListN.{length};
 ghost use Rattle.basis.specs.Numbers.{bytesOf, written};
 ghost use Rattle.basis.specs.Sums.{sum};
-ghost use Rattle.record.specs.Calls.{recordSize};
-ghost use Rattle.record.specs.Fields.{encode};
-ghost use Rattle.record.specs.Ranges.{callNumber};
+ghost use Rattle.table.specs.Calls.{recordSize};
+ghost use Rattle.table.specs.Fields.{encode};
+ghost use Rattle.table.specs.Ranges.{callNumber};
 ghost use Rattle.record.specs.Writing.{recordOf, writeNumber, writtenBy};
-use crate::calls::Call;
-use crate::calls::parts_of;
-use crate::calls::readings_behind;
-use crate::calls::record_size;
 use crate::fields::put_bytes;
 use crate::fields::put_fields;
-use crate::forms::FIELDS;
-use crate::forms::Form;
-use crate::forms::form_of;
-use crate::ranges::call_number;
+use crate::sizes::readings_behind;
+use crate::sizes::record_size;
+use table::Call;
+use table::FIELDS;
+use table::Form;
+use table::call_number;
+use table::form_of;
+use table::parts_of;
 
 // A mark, values in their widths and the bytes of readings, over what stands at the start of out.
 pub fn put_parts(out: &mut [u8], form: Form, values: [u32; FIELDS], readings: &[u8])

@@ -3,7 +3,10 @@
 use libc::STDIN_FILENO;
 use libc::STDOUT_FILENO;
 use record::Call;
+use record::ConsumerCall;
+use record::ContractCall;
 use record::Read;
+use record::UnitCall;
 
 fn put(text: &[u8]) {
     io::write_all(STDOUT_FILENO, text);
@@ -29,7 +32,7 @@ fn put_hex(bytes: &[u8]) {
 }
 
 // The fields of a unit, from its kind on.
-fn put_unit(kind: u32, flags: u32, pic: u32, ppr: u32, e1: u32, e2: u32, cap: u32) {
+fn put_kind(kind: u32, flags: u32, pic: u32, ppr: u32, e1: u32, e2: u32, cap: u32) {
     put_field(kind);
     put_field(flags);
     put_field(pic);
@@ -45,11 +48,10 @@ fn put_three(a: u32, b: u32, c: u32) {
     put_field(c);
 }
 
-fn put_fields(call: Call) {
-    match call {
-        Call::Year { nhrm, nhmd, ndhmd } => put_three(nhrm, nhmd, ndhmd),
-        Call::Unit {
-            unit,
+// The fields behind the unit.
+fn put_unit(act: UnitCall) {
+    match act {
+        UnitCall::Enrol {
             producer,
             kind,
             flags,
@@ -59,49 +61,73 @@ fn put_fields(call: Call) {
             e2,
             cap,
         } => {
-            put_field(unit);
             put_field(producer);
-            put_unit(kind, flags, pic, ppr, e1, e2, cap);
+            put_kind(kind, flags, pic, ppr, e1, e2, cap);
         }
-        Call::Test {
-            unit,
+        UnitCall::Test {
             component,
             ending,
             tc,
             count,
         } => {
-            put_three(unit, component, ending);
-            put_field(tc);
-            put_field(count);
+            put_field(component);
+            put_three(ending, tc, count);
         }
-        Call::Availability {
-            unit,
+        UnitCall::Availability {
             component,
             hd,
             hmp,
             hif,
             hed,
         } => {
-            put_three(unit, component, hd);
+            put_field(component);
+            put_field(hd);
             put_three(hmp, hif, hed);
         }
-        Call::Declare { consumer, d, a } => put_three(consumer, d, a),
-        Call::Fix { dmp } => put_field(dmp),
-        Call::Commit {
-            producer,
-            consumer,
-            q,
-        } => put_three(producer, consumer, q),
-        Call::Release {
-            producer,
-            consumer,
-            q,
-        } => put_three(producer, consumer, q),
-        Call::Meter { consumer, dreal } => {
-            put_field(consumer);
-            put_field(dreal);
+    }
+}
+
+// The fields behind the consumer.
+fn put_consumer(act: ConsumerCall) {
+    match act {
+        ConsumerCall::Declare { d, a } => {
+            put_field(d);
+            put_field(a);
         }
+        ConsumerCall::Meter { dreal } => put_field(dreal),
+    }
+}
+
+// The fields behind the producer and the consumer.
+fn put_contract(act: ContractCall) {
+    match act {
+        ContractCall::Commit { q } => put_field(q),
+        ContractCall::Release { q } => put_field(q),
+    }
+}
+
+fn put_fields(call: Call) {
+    match call {
+        Call::Year { nhrm, nhmd, ndhmd } => put_three(nhrm, nhmd, ndhmd),
+        Call::Fix { dmp } => put_field(dmp),
         Call::Close { p } => put_field(p),
+        Call::Unit { unit, act } => {
+            put_field(unit);
+            put_unit(act);
+        }
+        Call::Consumer { consumer, act } => {
+            put_field(consumer);
+            put_consumer(act);
+        }
+        Call::Contract {
+            producer,
+            consumer,
+            act,
+        } => {
+            put_field(producer);
+            put_field(consumer);
+            put_contract(act);
+        }
     }
 }
 

@@ -1,16 +1,13 @@
 -- What the book keeps, a fresh book, and what a reply is ("The book").
-use mathlib.Core.Bool.{Bool, true, false}
 use mathlib.Core.List.{List}
 use Prim.Native.Nat.{ℕ, _+_, _-_, _*_}
 use lib.Dec.{eqb}
 use lib.ListN.{getD, take, drop, replicate}
 use Rattle.basis.specs.Choice.{pick}
-use Rattle.basis.specs.Sums.{sum}
 use Rattle.power.specs.Power.{fresh}
 use Rattle.quantities.specs.Limits.{units, producers, consumers}
-use Rattle.plant.specs.declared.offer.Hours.{Hours}
-use Rattle.record.specs.Ranges.{callNumber}
-use Rattle.record.specs.declared.calls.Call.{Call}
+use Rattle.table.specs.Ranges.{callNumber}
+use Rattle.table.specs.declared.calls.Call.{Call}
 use Rattle.state.specs.declared.kept.Stage.{Stage}
 use Rattle.state.specs.declared.kept.Stage.the-variants.{Blank, Gathering, Firm, Closed}
 use Rattle.state.specs.declared.kept.Enrolment.the-variants.{Vacant}

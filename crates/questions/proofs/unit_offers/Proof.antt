@@ -3,16 +3,17 @@ use borrow.Author.Needs.{needs}
 use Rattle.quantities.specs.Limits.{units}
 use Rattle.basis.proofs.Answers.{in-between, below-range, above-range}
 use Rattle.questions.specs.Questions.{unitOffersOf}
+use Rattle.questions.proofs.Values.{unit-told}
 use Rattle.questions.proofs.unit_offers.Statement.{statement}
 use Rattle.questions.proofs.unit_offers.Tie as tie
 
 returns : tie.Need-returns
 unfolding unitOffersOf
-returns c = simp (below-range 1 units _ (c .if1 .taken))
+returns c = unit-told _ _ (simp (below-range 1 units _ (c .if1 .taken)))
 
 returns-2 : tie.Need-returns-2
 unfolding unitOffersOf
-returns-2 c = simp (above-range 1 units _ (c .if2 .taken))
+returns-2 c = unit-told _ _ (simp (above-range 1 units _ (c .if2 .taken)))
 
 mul-u : tie.Need-mul-u
 mul-u c = search needs
@@ -37,7 +38,9 @@ offers-by-requires c κs = search needs
 
 returns-3 : tie.Need-returns-3
 unfolding unitOffersOf
-returns-3 c = simp (in-between 1 units _ (c .before .before .before .before .before .if1 .left) (c .before .before .before .before .if2 .left)) (c .offers-by .ensures)
+returns-3 c =
+    let s = c .before .before .before .before in
+    unit-told _ _ (simp (in-between 1 units _ (s .before .if1 .left) (s .if2 .left)) (c .offers-by .ensures))
 
 pub unit-offers-spec : {M : Type 1} → statement M
 unit-offers-spec =

@@ -1,6 +1,6 @@
 -- `book::begun::begin` meets its contract. Assumes nothing.
 use mathlib.Core.Path.{refl}
-use Rattle.decision.specs.Gathering.{begun}
+use Rattle.book.specs.Year.{begun}
 use Rattle.book.proofs.begun.begin.Statement.{statement}
 use Rattle.book.proofs.begun.begin.Tie as tie
 

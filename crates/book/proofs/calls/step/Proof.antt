@@ -1,51 +1,29 @@
--- `book::calls::step` meets its contract. Assumes nothing.
-use mathlib.Core.Path.{ap, _∙_}
+-- `book::calls::step` meets its contract: each arm by the definition's own clause. Assumes nothing.
 use borrow.Author.Needs.{needs}
-use denote.Ref.{now}
-use Rattle.book.specs.Settlement.{settledOf}
-use Rattle.book.proofs.Settled.{decidedAt, step-law}
+use Rattle.book.specs.Step.{stepOf}
 use Rattle.book.proofs.calls.step.Statement.{statement}
 use Rattle.book.proofs.calls.step.Tie as tie
 
-places-of-requires : tie.Need-places-of-requires
-places-of-requires c κs = search needs
-
-mul-unit : tie.Need-mul-unit
-mul-unit c = search needs
-
-element-copy-out-unit : tie.Need-element-copy-out-unit
-element-copy-out-unit c = search needs
-
-mul-consumer : tie.Need-mul-consumer
-mul-consumer c = search needs
-
-element-copy-out-consumer : tie.Need-element-copy-out-consumer
-element-copy-out-consumer c = search needs
-
-decide-requires : tie.Need-decide-requires
-decide-requires c κs = search needs
-
-settle-requires : tie.Need-settle-requires
-settle-requires c κs = search needs
-
-returns : tie.Need-returns
-returns c =
-    let a = c .before .before .before .before .before .before .before .before .before .args in
-    let at = c .before .before .before .before .before .before .before .places-of in
-    c .settle .ensures
-    ∙ ap (settledOf (a .t1) (at .result)) (c .before .decide .ensures)
-    ∙ ap (decidedAt (a .t1) (a .call) (now (a .readings))) (at .ensures .same)
-    ∙ step-law (a .t1) (a .call) (now (a .readings))
-
 pub step-spec : {M : Type 1} → statement M
+unfolding stepOf
 step-spec =
     tie.close
     (tie.spec
-    places-of-requires
-    mul-unit
-    element-copy-out-unit
-    mul-consumer
-    element-copy-out-consumer
-    decide-requires
-    settle-requires
-    returns)
+    (λ c. search needs)
+    (λ c κs. search needs)
+    (λ c. search needs)
+    (λ c κs. search needs)
+    (λ c. search needs)
+    (λ c κs. search needs)
+    (λ c. search needs)
+    (λ c κs. search needs)
+    (λ c. search needs)
+    (λ c κs. search needs)
+    (λ c. search needs)
+    (λ c κs. search needs)
+    (λ c. rw (c .before .before .call .given .1) (c .year .ensures))
+    (λ c. rw (c .before .before .call2 .given .1) (c .fix .ensures))
+    (λ c. rw (c .before .before .call3 .given .1) (c .close .ensures))
+    (λ c. rw (c .before .before .call4 .given .1) (c .of-unit .ensures))
+    (λ c. rw (c .before .before .call5 .given .1) (c .of-consumer .ensures))
+    (λ c. rw (c .before .before .call6 .given .1) (c .of-contract .ensures)))

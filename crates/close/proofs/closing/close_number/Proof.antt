@@ -1,38 +1,59 @@
 -- `close::closing::close_number` meets its contract: range, stage, then number 14. Assumes nothing.
+use mathlib.Core.Path.{sym, ap, _∙_}
+use mathlib.Core.List.{[], map}
+use Prim.Native.Nat.{_*_, _/_}
 use borrow.Author.Needs.{needs}
-use borrow.Author.Tests.{ne-eqb}
-use Rattle.close.specs.Close.{closeNumberBy}
+use denote.Ref.{now}
+use Rattle.basis.specs.Choice.{pick}
+use Rattle.basis.specs.Sums.{allAtMost}
+use Rattle.quantities.specs.Limits.{greatestPower}
+use Rattle.table.specs.declared.calls.Call.the-variants.{Close}
+use Rattle.state.specs.declared.kept.Stage.the-variants.{Firm}
+use Rattle.state.proofs.RangeStage.{RangeThenStage, range-then-stage}
+use Rattle.close.specs.Close.{closeNumberFrom}
 use Rattle.close.proofs.closing.close_number.Statement.{statement}
 use Rattle.close.proofs.closing.close_number.Tie as tie
 
-slice-aggregate-call-number : tie.Need-slice-aggregate-call-number
-slice-aggregate-call-number c = search needs
-
-call-number-requires : tie.Need-call-number-requires
-call-number-requires c κs = tt
+-- the close's range, stage and what is left
+order : (s : tie.Start)
+    → RangeThenStage (Close (s .args .p)) [] Firm (s .args .stage) (pick (allAtMost greatestPower (map (λ real. real * s .args .dmp / s .args .total) (now (s .args .reals)))) 0 14)
+order s = range-then-stage
 
 returns : tie.Need-returns
-unfolding closeNumberBy
-returns c = simp (← c .before .call-number .ensures, ne-eqb _ 0 (c .if1 .taken))
-
-stage-number-requires : tie.Need-stage-number-requires
-stage-number-requires c κs = tt
+unfolding closeNumberFrom
+returns c = order (c .before .before .before .before) .out-of-range (c .before .call-number .ensures) (c .if1 .taken)
 
 returns-2 : tie.Need-returns-2
-unfolding closeNumberBy
+unfolding closeNumberFrom
 returns-2 c =
-    simp (← c .before .before .before .call-number .ensures, c .before .before .if1 .left, ← c .before .stage-number .ensures, ne-eqb _ _ (c .if2 .taken))
-
-close-rest-requires : tie.Need-close-rest-requires
-close-rest-requires c κs = tt
+    let r = c .before .before in
+    order (r .before .before .before .before) .other-stage (r .before .call-number .ensures) (r .if1 .left) (c .before .stage-number .ensures) (c .if2 .taken)
 
 returns-3 : tie.Need-returns-3
-unfolding closeNumberBy
+unfolding closeNumberFrom
 returns-3 c =
-    simp (← c .before .before .before .before .call-number .ensures, c .before .before .before .if1 .left, ← c .before .before .stage-number .ensures, c .before .if2 .left)
-    (c .close-rest .ensures)
+    let q = c .before .before in
+    let r = q .before .before in
+    ap (λ t. pick t 0 14) (sym (c .if3 .taken) ∙ c .before .is-within .ensures)
+    ∙ order (r .before .before .before .before) .own-stage (r .before .call-number .ensures) (r .if1 .left) (q .before .stage-number .ensures) (q .if2 .left)
+
+returns-4 : tie.Need-returns-4
+unfolding closeNumberFrom
+returns-4 c =
+    let q = c .before .before in
+    let r = q .before .before in
+    ap (λ t. pick t 0 14) (sym (c .if3 .left) ∙ c .before .is-within .ensures)
+    ∙ order (r .before .before .before .before) .own-stage (r .before .call-number .ensures) (r .if1 .left) (q .before .stage-number .ensures) (q .if2 .left)
 
 pub close-number-spec : {M : Type 1} → statement M
 close-number-spec =
     tie.close
-    (tie.spec slice-aggregate-call-number call-number-requires returns stage-number-requires returns-2 close-rest-requires returns-3)
+    (tie.spec
+    (λ c. search needs)
+    (λ c κs. tt)
+    returns
+    (λ c κs. tt)
+    returns-2
+    (λ c κs. tt)
+    returns-3
+    returns-4)

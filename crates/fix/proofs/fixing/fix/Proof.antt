@@ -1,38 +1,27 @@
--- `fix::fixing::fix` meets its contract: range, stage, then the division. Assumes nothing.
-use borrow.Author.Needs.{needs}
-use borrow.Author.Tests.{ne-eqb}
-use Rattle.fix.specs.Fix.{fixNumber, fixOf}
+-- `fix::fixing::fix` meets its contract: its number, then the book of the firm year. Assumes nothing.
+use mathlib.Core.Path.{sym, _∙_}
+use Rattle.state.proofs.RangeStage.{refused}
+use Rattle.fix.specs.Fix.{fixed, fixOf}
+use Rattle.fix.proofs.FixLaws.{accepted-fix}
 use Rattle.fix.proofs.fixing.fix.Statement.{statement}
 use Rattle.fix.proofs.fixing.fix.Tie as tie
 
-slice-aggregate-call-number : tie.Need-slice-aggregate-call-number
-slice-aggregate-call-number c = search needs
-
-call-number-requires : tie.Need-call-number-requires
-call-number-requires c κs = tt
-
 returns : tie.Need-returns
-unfolding fixNumber fixOf
-returns c = simp (← c .before .call-number .ensures, ne-eqb _ 0 (c .if1 .taken))
-
-stage-number-requires : tie.Need-stage-number-requires
-stage-number-requires c κs = tt
-
-returns-2 : tie.Need-returns-2
-unfolding fixNumber fixOf
-returns-2 c =
-    simp (← c .before .before .before .call-number .ensures, c .before .before .if1 .left, ← c .before .stage-number .ensures, ne-eqb _ _ (c .if2 .taken))
+unfolding fixOf
+returns c =
+    let a = c .before .before .before .args in
+    refused (a .book) (fixed (a .book) (a .dmp)) (c .before .fix-number .ensures) (c .if1 .taken)
 
 divided-requires : tie.Need-divided-requires
-divided-requires c κs = tt
+divided-requires c κs =
+    let a = c .before .before .before .args in
+    accepted-fix (a .book .stage) (a .book .consumers) (a .dmp) (sym (c .before .fix-number .ensures) ∙ c .if1 .left)
 
-returns-3 : tie.Need-returns-3
-unfolding fixNumber fixOf
-returns-3 c =
-    simp (← c .before .before .before .before .call-number .ensures, c .before .before .before .if1 .left, ← c .before .before .stage-number .ensures, c .before .if2 .left)
-    (c .divided .ensures)
+returns-2 : tie.Need-returns-2
+unfolding fixOf
+returns-2 c = simp (c .fixed .ensures, ← c .before .before .before .fix-number .ensures, c .before .before .if1 .left)
 
 pub fix-spec : {M : Type 1} → statement M
 fix-spec =
     tie.close
-    (tie.spec slice-aggregate-call-number call-number-requires returns stage-number-requires returns-2 divided-requires returns-3)
+    (tie.spec (λ c κs. tt) returns divided-requires (λ c κs. c .divided .ensures) returns-2)

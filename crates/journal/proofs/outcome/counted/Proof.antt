@@ -1,5 +1,4 @@
 -- `journal::counted` meets its contract. Assumes nothing.
-use native.Mathlib.Omega.{arith}
 use borrow.Author.Needs.{needs}
 use borrow.Author.Tests.{eq-eqb, ne-eqb}
 use Rattle.journal.proofs.outcome.counted.Statement.{statement}

@@ -4,7 +4,7 @@ use mathlib.Core.List.{List}
 use Prim.Native.Nat.{ℕ}
 use native.Mathlib.Omega.{arith}
 use borrow.Author.Needs.{needs}
-use Rattle.listing.specs.Letters.{producerLines}
+use Rattle.letters.specs.Letters.{producerLines}
 use Rattle.listing.specs.Listing.{firmLines}
 use Rattle.text.proofs.Putting.{puts-then, puts-as}
 use Rattle.listing.proofs.lines.put_firm.Statement.{statement}

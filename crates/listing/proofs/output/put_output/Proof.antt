@@ -1,5 +1,4 @@
 -- `listing::put_output` meets its contract. Assumes nothing.
-use mathlib.Core.Path.{sym}
 use native.Mathlib.Omega.{arith}
 use borrow.Author.Needs.{needs}
 use denote.Ref.{now}

@@ -5,9 +5,9 @@ use native.Mathlib.Omega.{arith}
 use borrow.Author.Needs.{needs}
 use denote.Ref.{now}
 use Rattle.basis.proofs.Numbers.{number-at-below}
-use Rattle.record.specs.Forms.{markAt}
+use Rattle.table.specs.Forms.{markAt}
 use Rattle.record.specs.Reading.{readFound}
-use Rattle.record.specs.declared.forms.Found.{Found}
+use Rattle.table.specs.declared.forms.Found.{Found}
 use Rattle.record.proofs.Reader.{at-end, at-one, at-two}
 use Rattle.record.proofs.reading.read_at.Statement.{statement}
 use Rattle.record.proofs.reading.read_at.Tie as tie

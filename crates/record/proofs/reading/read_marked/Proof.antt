@@ -1,73 +1,126 @@
--- `record::reading::read_marked` meets its contract: by the two lengths compared.
+-- `record::reading::read_marked` meets its contract: by the lengths compared, and by whether the record has readings.
 -- Assumes nothing.
 use mathlib.Core.List.{List}
-use mathlib.Core.Path.{_≡_, sym, ap, _∙_}
-use Prim.Native.Nat.{ℕ, _+_}
+use mathlib.Core.Path.{_≡_, ap, _∙_}
+use Prim.Native.Nat.{ℕ, _+_, _*_, _≤_}
 use native.Mathlib.Omega.{arith}
 use borrow.Author.Needs.{needs}
-use lib.ListN.{drop}
+use lib.ListN.{getD, drop}
 use denote.Ref.{now}
-use Rattle.basis.specs.Sums.{sum, allAtMost}
-use Rattle.record.specs.Calls.{callOf, readingsBehind, readingsSize}
-use Rattle.record.specs.Fields.{decode}
-use Rattle.record.specs.Forms.{widest}
-use Rattle.record.specs.declared.forms.Form.{Form}
-use Rattle.record.proofs.Reader.{cut-fields, cut-readings, whole-record}
-use Rattle.record.proofs.Table.{lawful, narrow-reading}
+use Rattle.table.specs.Calls.{callOf, partsOf, countPlace, readingsBehind, readingsSize}
+use Rattle.table.specs.Fields.{decode}
+use Rattle.table.specs.Forms.{formOf}
+use Rattle.table.specs.declared.calls.Parts.{Parts}
+use Rattle.table.specs.declared.forms.Form.{Form}
+use Rattle.table.specs.declared.forms.Mark.{Mark}
+use Rattle.record.proofs.Reader.{cut-fields, fields-size, fields-call, cut-readings, whole-record, fields-alone}
+use Rattle.table.proofs.Table.{lawful, narrow-reading, readings-read}
 use Rattle.record.proofs.reading.read_marked.Statement.{statement}
 use Rattle.record.proofs.reading.read_marked.Tie as tie
 
+-- where the record stands, and its form
+abbrev journal : tie.After-form-of → List ℕ
+journal w = now (w .before .before .args .journal)
+
+abbrev place : tie.After-form-of → ℕ
+place w = w .before .before .args .at
+
+abbrev mark : tie.After-form-of → Mark
+mark w = w .before .before .args .mark
+
+abbrev form : tie.After-form-of → Form
+form w = w .form-of .result
+
 returns : tie.Need-returns
 returns c =
-    let a = c .before .before .before .before .args in
-    cut-fields (now (a .journal)) (a .at) (a .mark) (c .before .before .form-of .result) (c .before .before .form-of .ensures) (c .if1 .taken)
+    let w = c .before in
+    cut-fields (journal w) (place w) (mark w) (form w) (w .form-of .ensures) (c .if1 .taken)
 
-fields-at-requires : tie.Need-fields-at-requires
-fields-at-requires c κs =
-    let a = c .before .before .before .before .args in
-    let e = c .before .before .form-of .ensures in
-    let z : c .before .before .form-of .result .size ≡ 2 + sum (c .before .before .form-of .result .widths) =
-    ap (λ (f : Form). f .size) e ∙ lawful (a .mark) .size ∙ ap (λ (f : Form). 2 + sum (f .widths)) (sym e) in
-    (ap (λ (f : Form). allAtMost widest (f .widths)) e ∙ lawful (a .mark) .narrow, omega arith)
+-- a record has two bytes for its mark
+marked : (w : tie.After-form-of) → 2 ≤ form w .size
+marked w = omega (arith, ap (λ (g : Form). g .size) (w .form-of .ensures), lawful (mark w) .size)
 
-readings-behind-requires : tie.Need-readings-behind-requires
-readings-behind-requires c κs =
-    let f = c .before .before .before .form-of in
-    narrow-reading (c .before .before .before .before .before .args .mark) (f .result) (f .ensures)
+sub-call-of : tie.Need-sub-call-of
+sub-call-of c = omega (arith, marked (c .before))
 
--- the values of the fields are those that are read with the form's widths
-values-read : (w : tie.After-readings-behind) → w .before .fields-at .result ≡ decode (w .before .before .before .before .form-of .result .widths) (drop (w .before .before .before .before .before .before .args .at + 2) (now (w .before .before .before .before .before .before .args .journal)))
-values-read w = w .before .fields-at .ensures
+part-call-of-start : tie.Need-part-call-of-start
+part-call-of-start c = omega (arith, marked (c .before))
 
--- the bytes of the readings are those of the call that is read
-readings-read : (w : tie.After-readings-behind) → w .readings-behind .result ≡ readingsSize (callOf (w .before .before .before .before .before .before .args .mark) (w .before .fields-at .result))
-readings-read w =
-    let m = w .before .before .before .before .before .before .args .mark in
-    w .readings-behind .ensures .0
-    ∙ ap (λ (f : Form). readingsBehind f (w .before .fields-at .result)) (w .before .before .before .before .form-of .ensures)
-    ∙ sym (lawful m .readings (w .before .fields-at .result))
+call-of-requires : tie.Need-call-of-requires
+call-of-requires c κs =
+    let w = c .before .before in
+    fields-size (journal w) (place w) (mark w) (form w) (w .form-of .ensures) (c .before .if1 .left) (w .before .before .pre)
+
+-- the call is that of the fields in the journal
+abbrev fields : tie.After-form-of → List ℕ
+fields w = decode (formOf (mark w) .widths) (drop (place w + 2) (journal w))
+
+call-read : (d : tie.After-call-of) → d .call-of .result ≡ callOf (mark (d .before .before .before)) (fields (d .before .before .before))
+call-read d =
+    let w = d .before .before .before in
+    fields-call (journal w) (place w) (mark w) (form w) (w .form-of .ensures) (d .before .before .if1 .left)
+    (d .call-of .result)
+    (w .before .before .pre)
+    (d .call-of .ensures)
+
+-- so the bytes of its readings are as many as the form says for its count
+call-readings : (d : tie.After-call-of) →
+    readingsBehind (form (d .before .before .before)) (partsOf (d .call-of .result) .values) ≡ readingsSize (d .call-of .result)
+call-readings d =
+    let w = d .before .before .before in
+    readings-read (mark w) (form w) (fields w) (d .call-of .result) (w .form-of .ensures) (call-read d)
 
 returns-2 : tie.Need-returns-2
 returns-2 c =
-    let w = c .before in
-    let a = w .before .before .before .before .before .before .args in
-    let f = w .before .before .before .before .form-of in
-    cut-readings (now (a .journal)) (a .at) (a .mark) (f .result) (f .ensures) (callOf (a .mark) (w .before .fields-at .result)) (w .readings-behind .result)
-    (ap (λ (v : List ℕ). callOf (a .mark) v) (values-read w))
-    (readings-read w)
-    (w .before .before .if1 .left)
-    (c .if2 .taken)
+    let d = c .before .before in
+    let w = d .before .before .before in
+    let k = getD (partsOf (d .call-of .result) .values) countPlace 0 in
+    fields-alone (journal w) (place w) (mark w) (form w) (w .form-of .ensures)
+    (d .call-of .result)
+    (form w .«reading_width» * k)
+    (call-read d)
+    (call-readings d)
+    (d .before .before .if1 .left)
+    (ap (λ n. n * k) (c .if2 .taken) ∙ omega arith)
+
+readings-behind-requires : tie.Need-readings-behind-requires
+readings-behind-requires c κs =
+    let w = c .before .before .before .before .before .before .before in
+    narrow-reading (mark w) (form w) (w .form-of .ensures)
+
+-- the bytes of the readings that are found are those of the call
+abbrev read : tie.After-readings-behind → tie.After-call-of
+read b = b .before .before .before .before .before
+
+readings-found : (b : tie.After-readings-behind) → b .readings-behind .result ≡ readingsSize (read b .call-of .result)
+readings-found b =
+    b .readings-behind .ensures .0
+    ∙ ap (λ (p : Parts). readingsBehind (form (read b .before .before .before)) (p .values)) (b .before .before .parts-of .ensures)
+    ∙ call-readings (read b)
 
 returns-3 : tie.Need-returns-3
 returns-3 c =
-    let w = c .before .before in
-    let a = w .before .before .before .before .before .before .args in
-    let f = w .before .before .before .before .form-of in
-    whole-record (now (a .journal)) (a .at) (a .mark) (f .result) (f .ensures) (c .call-of .result) (w .readings-behind .result)
-    (c .call-of .ensures ∙ ap (λ (v : List ℕ). callOf (a .mark) v) (values-read w))
-    (readings-read w ∙ ap readingsSize (sym (c .call-of .ensures)))
-    (w .before .before .if1 .left)
-    (c .before .if2 .left)
+    let d = read (c .before) in
+    let w = d .before .before .before in
+    cut-readings (journal w) (place w) (mark w) (form w) (w .form-of .ensures)
+    (d .call-of .result)
+    (c .before .readings-behind .result)
+    (call-read d)
+    (readings-found (c .before))
+    (d .before .before .if1 .left)
+    (c .if3 .taken)
+
+returns-4 : tie.Need-returns-4
+returns-4 c =
+    let d = read (c .before) in
+    let w = d .before .before .before in
+    whole-record (journal w) (place w) (mark w) (form w) (w .form-of .ensures)
+    (d .call-of .result)
+    (c .before .readings-behind .result)
+    (call-read d)
+    (readings-found (c .before))
+    (d .before .before .if1 .left)
+    (c .if3 .left)
 
 pub read-marked-spec : {M : Type 1} → statement M
 read-marked-spec =
@@ -77,11 +130,14 @@ read-marked-spec =
     (λ c. search needs)
     returns
     (λ c. search needs)
-    fields-at-requires
-    readings-behind-requires
+    (λ c. search needs)
+    sub-call-of
+    part-call-of-start
+    (λ c. search needs)
+    call-of-requires
     returns-2
     (λ c κs. search needs)
+    readings-behind-requires
+    returns-3
     (λ c. search needs)
-    (λ c. search needs)
-    (λ c. search needs)
-    returns-3)
+    returns-4)

@@ -8,8 +8,8 @@ use borrow.Author.Needs.{needs}
 use denote.Ref.{now}
 use Rattle.basis.proofs.Numbers.{length-bytesOf}
 use Rattle.basis.specs.Numbers.{bytesOf, written}
-use Rattle.record.specs.Fields.{encode}
-use Rattle.record.proofs.Codec.{length-encode}
+use Rattle.table.specs.Fields.{encode}
+use Rattle.table.proofs.Codec.{length-encode}
 use Rattle.record.proofs.Writer.{three-written}
 use Rattle.record.proofs.writing.put_parts.Statement.{statement}
 use Rattle.record.proofs.writing.put_parts.Tie as tie

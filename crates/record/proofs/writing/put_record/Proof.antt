@@ -7,12 +7,12 @@ use borrow.Author.Needs.{needs}
 use lib.ListN.{length-take, length, take}
 use denote.Ref.{now}
 use Rattle.basis.specs.Sums.{sum}
-use Rattle.record.specs.Calls.{fieldsSize, readingsSize}
-use Rattle.record.specs.Forms.{formOf}
-use Rattle.record.specs.declared.calls.Parts.{Parts}
-use Rattle.record.specs.declared.forms.Form.{Form}
-use Rattle.record.proofs.InRange.{in-range, readings-lent}
-use Rattle.record.proofs.Table.{lawful, narrow-reading, readings-by-parts, of-parts}
+use Rattle.table.specs.Calls.{fieldsSize, readingsSize}
+use Rattle.table.specs.Forms.{formOf}
+use Rattle.table.specs.declared.calls.Parts.{Parts}
+use Rattle.table.specs.declared.forms.Form.{Form}
+use Rattle.table.proofs.InRange.{in-range, readings-lent}
+use Rattle.table.proofs.Table.{lawful, narrow-reading, readings-by-parts, of-parts}
 use Rattle.record.proofs.Writer.{written-as, pieces}
 use Rattle.record.proofs.writing.put_record.Statement.{statement}
 use Rattle.record.proofs.writing.put_record.Tie as tie

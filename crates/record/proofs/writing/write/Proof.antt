@@ -5,7 +5,7 @@ use native.Mathlib.Omega.{arith}
 use borrow.Author.Needs.{needs}
 use lib.ListN.{length}
 use denote.Ref.{now}
-use Rattle.record.specs.Ranges.{callNumber}
+use Rattle.table.specs.Ranges.{callNumber}
 use Rattle.record.proofs.Writer.{write-refused, write-short, write-whole, write-kept, write-put}
 use Rattle.record.proofs.writing.write.Statement.{statement}
 use Rattle.record.proofs.writing.write.Tie as tie

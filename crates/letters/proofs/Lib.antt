@@ -1,0 +1,2 @@
+-- Laws of the lines of each letter.
+pub mod Owners

@@ -1,0 +1,2 @@
+-- Definitions of the lines of each letter.
+pub mod Letters

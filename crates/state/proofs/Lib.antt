@@ -1,0 +1,4 @@
+-- Laws of replies and of places.
+pub mod RangeStage
+pub mod Replies
+pub mod Placed
