@@ -1,9 +1,9 @@
 // A function for each call, and one for any.
 ghost use mathlib.Core.Path.{_≡_};
 ghost use mathlib.Core.List.{[]};
-ghost use Rattle.table.specs.declared.calls.UnitCall.the-variants.{Enrol, Test, Availability};
-ghost use Rattle.table.specs.declared.calls.ConsumerCall.the-variants.{Declare, Meter};
-ghost use Rattle.table.specs.declared.calls.ContractCall.the-variants.{Commit, Release};
+ghost use Rattle.table.specs.declared.units.UnitCall.the-variants.{Enrol, Test, Availability};
+ghost use Rattle.table.specs.declared.consumers.ConsumerCall.the-variants.{Declare, Meter};
+ghost use Rattle.table.specs.declared.contracts.ContractCall.the-variants.{Commit, Release};
 ghost use Rattle.gathering.specs.Units.{unitOf};
 ghost use Rattle.decision.specs.Consumers.{consumerOf};
 ghost use Rattle.decision.specs.Contracts.{contractOf};

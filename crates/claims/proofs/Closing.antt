@@ -16,10 +16,11 @@ use Rattle.basis.proofs.Tables.{length-tab, getD-tab}
 use Rattle.share.specs.Division.{divisionNumber}
 use Rattle.quantities.specs.Limits.{greatestTotal, greatestWeight, greatestPower, greatestPrice, consumers}
 use Rattle.share.proofs.Accepted.{enough}
-use Rattle.table.proofs.Ranged.{Numbered, close-ranged}
-use Rattle.table.specs.Calls.{partsOf}
+use Rattle.table.proofs.Laws.{Numbered}
+use Rattle.table.proofs.Table.{close-ranged}
+use Rattle.table.specs.Records.{partsOf}
 use Rattle.table.specs.declared.calls.Call.the-variants as call
-use Rattle.table.specs.Calls as name
+use Rattle.table.specs.Records as name
 use Rattle.state.specs.declared.kept.Stage.the-variants.{Firm}
 use Rattle.state.specs.declared.kept.Declaration.{Declaration}
 use Rattle.state.specs.declared.kept.Declaration.the-variants.{Undeclared, Declared}

@@ -19,11 +19,11 @@ use Rattle.power.specs.declared.component.Cap.the-variants.{Free, At}
 use Rattle.power.specs.declared.component.Availability.the-variants.{Known}
 use Rattle.power.specs.declared.component.Component.{Component}
 use Rattle.plant.proofs.Results.{test-within-greatest, test-within-cap, availability-keeps-maximum}
-use Rattle.table.proofs.Ranged.{Numbered}
-use Rattle.table.specs.Calls.{partsOf}
+use Rattle.table.proofs.Laws.{Numbered}
+use Rattle.table.specs.Records.{partsOf}
 use Rattle.table.specs.declared.calls.Call.the-variants as call
-use Rattle.table.specs.declared.calls.UnitCall.the-variants as unit-call
-use Rattle.table.specs.Calls as name
+use Rattle.table.specs.declared.units.UnitCall.the-variants as unit-call
+use Rattle.table.specs.Records as name
 use Rattle.state.specs.declared.kept.Unit.{Unit}
 use Rattle.state.specs.declared.kept.Book.{Book}
 use Rattle.state.specs.State.{unitAt}

@@ -6,12 +6,13 @@ use Prim.Native.Nat.{ℕ, _≤_}
 use borrow.Author.Tests.{eq-eqb, ne-eqb}
 use lib.Dec.{eqb}
 use Rattle.quantities.specs.Limits.{greatestPower, consumers}
-use Rattle.table.specs.Calls.{partsOf}
-use Rattle.table.specs.Calls as name
+use Rattle.table.specs.Records.{partsOf}
+use Rattle.table.specs.Records as name
 use Rattle.table.specs.declared.calls.Call.the-variants as call
-use Rattle.table.specs.declared.calls.ConsumerCall.{ConsumerCall}
-use Rattle.table.specs.declared.calls.ConsumerCall.the-variants.{Declare, Meter}
-use Rattle.table.proofs.Ranged.{Numbered, consumer-numbered, declare-ranged}
+use Rattle.table.specs.declared.consumers.ConsumerCall.{ConsumerCall}
+use Rattle.table.specs.declared.consumers.ConsumerCall.the-variants.{Declare, Meter}
+use Rattle.table.proofs.Laws.{Numbered}
+use Rattle.table.proofs.ConsumerLaws.{consumer-numbered, declare-ranged}
 use Rattle.state.specs.declared.kept.Stage.the-variants.{Gathering, Firm}
 use Rattle.state.specs.declared.kept.Consumer.{Consumer}
 use Rattle.state.specs.declared.kept.Book.{Book}

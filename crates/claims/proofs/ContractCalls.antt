@@ -14,12 +14,13 @@ use Rattle.basis.specs.Sums.{sum, sumUp}
 use Rattle.basis.proofs.Choice.{peel, peel-not}
 use Rattle.basis.proofs.Sums.{sum-as-sumUp, sumUp-same}
 use Rattle.quantities.specs.Limits.{producers, consumers}
-use Rattle.table.specs.Calls.{partsOf, CallName}
-use Rattle.table.specs.Calls as name
+use Rattle.table.specs.Records.{partsOf, CallName}
+use Rattle.table.specs.Records as name
 use Rattle.table.specs.declared.calls.Call.the-variants as call
-use Rattle.table.specs.declared.calls.ContractCall.{ContractCall}
-use Rattle.table.specs.declared.calls.ContractCall.the-variants.{Commit, Release}
-use Rattle.table.proofs.Ranged.{Numbered, contract-numbered}
+use Rattle.table.specs.declared.contracts.ContractCall.{ContractCall}
+use Rattle.table.specs.declared.contracts.ContractCall.the-variants.{Commit, Release}
+use Rattle.table.proofs.Laws.{Numbered}
+use Rattle.table.proofs.ContractLaws.{contract-numbered}
 use Rattle.state.specs.declared.kept.Stage.the-variants.{Firm}
 use Rattle.state.specs.declared.kept.Book.{Book}
 use Rattle.state.specs.State.{cellOf, rowOf, consumerAt, ranged}

@@ -16,10 +16,11 @@ use Rattle.basis.proofs.Tables.{getD-tab, tab-same}
 use Rattle.share.specs.Division.{divisionNumber, shares}
 use Rattle.quantities.specs.Limits.{greatestTotal, greatestWeight, mostWeights, greatestPower, consumers}
 use Rattle.table.specs.Ranges.{callNumber}
-use Rattle.table.proofs.Ranged.{Numbered, fix-ranged}
-use Rattle.table.specs.Calls.{partsOf}
+use Rattle.table.proofs.Laws.{Numbered}
+use Rattle.table.proofs.Table.{fix-ranged}
+use Rattle.table.specs.Records.{partsOf}
 use Rattle.table.specs.declared.calls.Call.the-variants as call
-use Rattle.table.specs.Calls as name
+use Rattle.table.specs.Records as name
 use Rattle.state.specs.declared.kept.Stage.the-variants.{Gathering}
 use Rattle.state.specs.declared.kept.Book.{Book}
 use Rattle.state.specs.State.{freshConsumer, rowOf}

@@ -13,8 +13,8 @@ use Rattle.power.specs.declared.component.Cap.{Cap}
 use Rattle.power.specs.declared.component.Cap.the-variants.{Free, At}
 use Rattle.power.specs.declared.component.Component.{Component}
 use Rattle.plant.specs.declared.offer.Hours.{Hours}
-use Rattle.table.proofs.Ranged.{Numbered}
-use Rattle.table.specs.Calls as name
+use Rattle.table.proofs.Laws.{Numbered}
+use Rattle.table.specs.Records as name
 use Rattle.state.specs.declared.kept.Stage.{Stage}
 use Rattle.state.specs.declared.kept.Unit.{Unit}
 use Rattle.state.specs.declared.kept.Consumer.{Consumer}

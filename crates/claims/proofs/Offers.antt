@@ -15,7 +15,7 @@ use Rattle.quantities.specs.Limits.{greatestPower, units, producers}
 use Rattle.plant.specs.Efficient.{chosenYear}
 use Rattle.plant.proofs.Offers.{offer-at-most-maximum}
 use Rattle.plant.proofs.Selection.{efficient-of-unit, efficient-at-most-offer}
-use Rattle.table.proofs.Ranged.{Numbered}
+use Rattle.table.proofs.Laws.{Numbered}
 use Rattle.state.specs.declared.kept.Enrolment.{Enrolment}
 use Rattle.state.specs.declared.kept.Enrolment.the-variants.{Vacant, Enrolled}
 use Rattle.state.specs.declared.kept.Unit.{Unit}

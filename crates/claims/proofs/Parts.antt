@@ -7,7 +7,7 @@ use borrow.Author.Tests.{eqb-true}
 use lib.Dec.{eqb}
 use lib.ListN.{getD}
 use Rattle.basis.specs.Choice.{pick}
-use Rattle.table.specs.Calls.{CallName, nameOf, nameNumber}
+use Rattle.table.specs.Records.{CallName, nameOf, nameNumber}
 use Rattle.book.specs.Lists.{Event}
 use Rattle.claims.specs.History.{isA}
 

@@ -8,7 +8,7 @@ use Rattle.basis.specs.Choice.{pick}
 use Rattle.basis.specs.Tables.{tab}
 use Rattle.basis.proofs.Tables.{getD-tab}
 use Rattle.quantities.specs.Limits.{units, consumers}
-use Rattle.table.proofs.Ranged.{Numbered}
+use Rattle.table.proofs.Laws.{Numbered}
 use Rattle.state.specs.declared.kept.Unit.{Unit}
 use Rattle.state.specs.declared.kept.Consumer.{Consumer}
 use Rattle.state.specs.declared.kept.Book.{Book}

@@ -9,8 +9,8 @@ use Rattle.basis.specs.Choice.{pick}
 use Rattle.basis.proofs.Tables.{tab-same}
 use Rattle.quantities.specs.Limits.{units, consumers}
 use Rattle.power.specs.declared.component.Component.{Component}
-use Rattle.table.specs.Calls.{CallName}
-use Rattle.table.specs.Calls as name
+use Rattle.table.specs.Records.{CallName}
+use Rattle.table.specs.Records as name
 use Rattle.state.specs.declared.kept.Enrolment.{Enrolment}
 use Rattle.state.specs.declared.kept.Unit.{Unit}
 use Rattle.state.specs.declared.kept.Declaration.{Declaration}

@@ -17,8 +17,8 @@ use Rattle.share.proofs.Laws.{sum-shares, share-near}
 use Rattle.quantities.specs.Limits.{units, producers, consumers}
 use Rattle.quantities.specs.Flags.{flagged, injectionGiven}
 use Rattle.power.specs.declared.component.Cap.the-variants.{At}
-use Rattle.table.specs.Calls as name
-use Rattle.table.proofs.Ranged.{Numbered}
+use Rattle.table.specs.Records as name
+use Rattle.table.proofs.Laws.{Numbered}
 use Rattle.state.specs.declared.kept.Unit.{Unit}
 use Rattle.state.specs.declared.kept.Consumer.{Consumer}
 use Rattle.state.specs.declared.kept.Book.{Book}

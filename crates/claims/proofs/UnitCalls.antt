@@ -14,14 +14,15 @@ use Rattle.plant.specs.Availability.{minutes, minutesFit, availabilityNumber}
 use Rattle.quantities.specs.Limits.{units}
 use Rattle.power.specs.declared.component.Cap.{Cap}
 use Rattle.power.specs.declared.component.Cap.the-variants.{Free, At}
-use Rattle.table.specs.Calls.{partsOf}
-use Rattle.table.specs.Calls as name
+use Rattle.table.specs.Records.{partsOf}
+use Rattle.table.specs.Records as name
 use Rattle.table.specs.Ranges.{callNumber, restInRange}
 use Rattle.table.specs.declared.calls.Call.the-variants as call
-use Rattle.table.specs.declared.calls.UnitCall.{UnitCall}
-use Rattle.table.specs.declared.calls.UnitCall.the-variants.{Enrol, Test, Availability}
-use Rattle.table.proofs.InRange.{in-range}
-use Rattle.table.proofs.Ranged.{Numbered, unit-numbered, test-ranged, availability-ranged}
+use Rattle.table.specs.declared.units.UnitCall.{UnitCall}
+use Rattle.table.specs.declared.units.UnitCall.the-variants.{Enrol, Test, Availability}
+use Rattle.table.proofs.Laws.{in-range}
+use Rattle.table.proofs.Laws.{Numbered}
+use Rattle.table.proofs.UnitLaws.{unit-numbered, test-ranged, availability-ranged}
 use Rattle.state.specs.declared.kept.Stage.the-variants.{Gathering}
 use Rattle.state.specs.declared.kept.Unit.{Unit}
 use Rattle.state.specs.declared.kept.Book.{Book}

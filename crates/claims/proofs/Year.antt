@@ -3,8 +3,8 @@ use mathlib.Core.Path.{_≡_, refl, sym, _∙_}
 use mathlib.Core.Bool.{false}
 use mathlib.Core.List.{List, [], _∷_}
 use Prim.Native.Nat.{ℕ}
-use Rattle.table.specs.Calls.{partsOf}
-use Rattle.table.specs.Calls as name
+use Rattle.table.specs.Records.{partsOf}
+use Rattle.table.specs.Records as name
 use Rattle.table.specs.declared.calls.Call.the-variants as call
 use Rattle.state.specs.declared.kept.Stage.the-variants.{Blank}
 use Rattle.state.specs.declared.kept.Book.{Book}

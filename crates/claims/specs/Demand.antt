@@ -7,7 +7,7 @@ use lib.ListN.{getD}
 use Rattle.basis.specs.Sums.{sum}
 use Rattle.quantities.specs.Limits.{units, producers, consumers}
 use Rattle.quantities.specs.Flags.{flagged, injectionGiven}
-use Rattle.table.specs.Calls as name
+use Rattle.table.specs.Records as name
 use Rattle.state.specs.declared.kept.Declaration.{Declaration}
 use Rattle.state.specs.declared.kept.Declaration.the-variants.{Undeclared, Declared}
 use Rattle.state.specs.declared.kept.Book.{Book}

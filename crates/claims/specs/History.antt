@@ -11,8 +11,8 @@ use Rattle.power.specs.declared.component.Availability.the-variants.{Known}
 use Rattle.power.specs.declared.component.Cap.{Cap}
 use Rattle.power.specs.declared.component.Component.{Component}
 use Rattle.plant.specs.declared.offer.Hours.{Hours}
-use Rattle.table.specs.Calls.{partsOf, CallName, isNamed}
-use Rattle.table.specs.Calls as name
+use Rattle.table.specs.Records.{partsOf, CallName, isNamed}
+use Rattle.table.specs.Records as name
 use Rattle.state.specs.declared.kept.Enrolment.{Enrolment}
 use Rattle.state.specs.declared.kept.Enrolment.the-variants.{Vacant, Enrolled}
 use Rattle.book.specs.Lists.{Event}

@@ -10,10 +10,10 @@ use Rattle.power.specs.Power.{countFits}
 use Rattle.plant.specs.Availability.{minutes, minutesFit}
 use Rattle.table.specs.declared.calls.Call.{Call}
 use Rattle.table.specs.declared.calls.Call.the-variants as call
-use Rattle.table.specs.declared.calls.UnitCall.the-variants as unit-call
-use Rattle.table.specs.declared.calls.ConsumerCall.the-variants as consumer-call
-use Rattle.table.specs.declared.calls.ContractCall.the-variants as contract-call
-use Rattle.table.specs.Calls as name
+use Rattle.table.specs.declared.units.UnitCall.the-variants as unit-call
+use Rattle.table.specs.declared.consumers.ConsumerCall.the-variants as consumer-call
+use Rattle.table.specs.declared.contracts.ContractCall.the-variants as contract-call
+use Rattle.table.specs.Records as name
 use Rattle.state.specs.State.{freshBook, ranged}
 use Rattle.gathering.specs.Units.{hasTest, hasAvailability}
 use Rattle.book.specs.Lists.{Event, replyTo, afterAll, acceptedBy}

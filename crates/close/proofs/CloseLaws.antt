@@ -22,7 +22,7 @@ use Rattle.state.specs.declared.kept.Consumer.{Consumer}
 use Rattle.state.specs.declared.kept.CloseFigures.{CloseFigures}
 use Rattle.table.specs.Ranges.{callNumber}
 use Rattle.table.specs.declared.calls.Call.the-variants as call
-use Rattle.table.proofs.Ranged.{close-ranged}
+use Rattle.table.proofs.Table.{close-ranged}
 use Rattle.state.specs.declared.kept.Stage.{Stage}
 use Rattle.state.specs.declared.kept.Stage.the-variants.{Firm}
 use Rattle.state.specs.declared.kept.Book.{Book}

@@ -13,9 +13,10 @@ use Rattle.basis.proofs.Choice.{handed-on}
 use Rattle.quantities.specs.Limits.{consumers}
 use Rattle.table.specs.Ranges.{callNumber}
 use Rattle.table.specs.declared.calls.Call.the-variants as call
-use Rattle.table.specs.declared.calls.ConsumerCall.{ConsumerCall}
-use Rattle.table.specs.declared.calls.ContractCall.{ContractCall}
-use Rattle.table.proofs.Ranged.{consumer-numbered, contract-numbered}
+use Rattle.table.specs.declared.consumers.ConsumerCall.{ConsumerCall}
+use Rattle.table.specs.declared.contracts.ContractCall.{ContractCall}
+use Rattle.table.proofs.ConsumerLaws.{consumer-numbered}
+use Rattle.table.proofs.ContractLaws.{contract-numbered}
 use Rattle.state.specs.declared.kept.Stage.{Stage}
 use Rattle.state.specs.declared.kept.Stage.the-variants.{Firm}
 use Rattle.state.specs.declared.kept.Consumer.{Consumer}

@@ -6,8 +6,8 @@ use lib.Dec.{eqb}
 use lib.ListN.{set}
 use Rattle.basis.specs.Choice.{pick}
 use Rattle.table.specs.declared.calls.Call.the-variants as call
-use Rattle.table.specs.declared.calls.ConsumerCall.{ConsumerCall}
-use Rattle.table.specs.declared.calls.ConsumerCall.the-variants.{Declare, Meter}
+use Rattle.table.specs.declared.consumers.ConsumerCall.{ConsumerCall}
+use Rattle.table.specs.declared.consumers.ConsumerCall.the-variants.{Declare, Meter}
 use Rattle.state.specs.declared.kept.Stage.{Stage}
 use Rattle.state.specs.declared.kept.Stage.the-variants.{Gathering, Firm}
 use Rattle.state.specs.declared.kept.Declaration.{Declaration}

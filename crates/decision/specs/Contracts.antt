@@ -7,8 +7,8 @@ use Rattle.basis.specs.Choice.{pick, between}
 use Rattle.basis.specs.Sums.{sum}
 use Rattle.quantities.specs.Limits.{producers}
 use Rattle.table.specs.declared.calls.Call.the-variants as call
-use Rattle.table.specs.declared.calls.ContractCall.{ContractCall}
-use Rattle.table.specs.declared.calls.ContractCall.the-variants.{Commit, Release}
+use Rattle.table.specs.declared.contracts.ContractCall.{ContractCall}
+use Rattle.table.specs.declared.contracts.ContractCall.the-variants.{Commit, Release}
 use Rattle.state.specs.declared.kept.Stage.{Stage}
 use Rattle.state.specs.declared.kept.Stage.the-variants.{Firm}
 use Rattle.state.specs.declared.kept.Declaration.{Declaration}

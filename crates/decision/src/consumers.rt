@@ -11,9 +11,8 @@ use state::GATHERING;
 use state::Reading;
 use state::Stage;
 use state::stage_number;
-use table::Call;
 use table::ConsumerCall;
-use table::call_number;
+use table::consumer_number;
 
 // A refusal with its number, or the consumer that is to be stored.
 pub enum ConsumerAnswer {
@@ -62,7 +61,7 @@ pub fn consumer_answer(
 ) -> ConsumerAnswer
     ensures { λ r. ⌜ r ≡ consumerAnswerOf consumer act stage x ⌝ }
 {
-    let number = call_number(Call::Consumer { consumer, act }, b"");
+    let number = consumer_number(consumer, act);
     if number != 0 {
         return ConsumerAnswer::Refused(number);
     }

@@ -14,9 +14,8 @@ use state::Declaration;
 use state::FIRM;
 use state::Stage;
 use state::stage_number;
-use table::Call;
 use table::ContractCall;
-use table::call_number;
+use table::contract_number;
 
 // A refusal with its number, or the balance that is to be stored, and its cell.
 pub enum BalanceAnswer {
@@ -108,12 +107,7 @@ pub fn contract_answer<'a>(
 ) -> BalanceAnswer
     ensures { λ r. ⌜ r ≡ contractAnswerOf producer consumer act stage declaration (now (balances .entry)) (now (limits .entry)) ⌝ }
 {
-    let call = Call::Contract {
-        producer,
-        consumer,
-        act,
-    };
-    let number = call_number(call, b"");
+    let number = contract_number(producer, consumer, act);
     if number != 0 {
         return BalanceAnswer::Refused(number);
     }

@@ -10,7 +10,7 @@ use Rattle.power.specs.Ranges.{testInRange}
 use Rattle.table.specs.Ranges.{restInRange, fieldsNumber, callNumber}
 use Rattle.table.specs.declared.calls.Call.{Call}
 use Rattle.table.specs.declared.calls.Call.the-variants.{Unit}
-use Rattle.table.specs.declared.calls.UnitCall.the-variants.{Enrol, Test, Availability}
+use Rattle.table.specs.declared.units.UnitCall.the-variants.{Enrol, Test, Availability}
 use Rattle.state.specs.declared.kept.Stage.{Stage}
 use Rattle.state.specs.State.{stageNumber, ranged, staged}
 

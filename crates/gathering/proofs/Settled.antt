@@ -7,8 +7,8 @@ use Rattle.basis.proofs.Choice.{handed-on}
 use Rattle.quantities.specs.Limits.{units}
 use Rattle.table.specs.Ranges.{callNumber}
 use Rattle.table.specs.declared.calls.Call.the-variants as call
-use Rattle.table.specs.declared.calls.UnitCall.{UnitCall}
-use Rattle.table.proofs.Ranged.{unit-numbered}
+use Rattle.table.specs.declared.units.UnitCall.{UnitCall}
+use Rattle.table.proofs.UnitLaws.{unit-numbered}
 use Rattle.state.specs.declared.kept.Stage.the-variants.{Gathering}
 use Rattle.state.specs.declared.kept.Unit.{Unit}
 use Rattle.state.specs.declared.kept.Book.{Book}

@@ -13,8 +13,8 @@ use Rattle.power.specs.declared.component.Cap.{Cap}
 use Rattle.power.specs.declared.component.Cap.the-variants.{Free, At}
 use Rattle.power.specs.declared.component.Component.{Component}
 use Rattle.table.specs.declared.calls.Call.the-variants as call
-use Rattle.table.specs.declared.calls.UnitCall.{UnitCall}
-use Rattle.table.specs.declared.calls.UnitCall.the-variants.{Enrol, Test, Availability}
+use Rattle.table.specs.declared.units.UnitCall.{UnitCall}
+use Rattle.table.specs.declared.units.UnitCall.the-variants.{Enrol, Test, Availability}
 use Rattle.state.specs.declared.kept.Stage.{Stage}
 use Rattle.state.specs.declared.kept.Stage.the-variants.{Gathering}
 use Rattle.state.specs.declared.kept.Entry.{Entry}

@@ -15,7 +15,7 @@ use state::stage_number;
 use table::Call;
 use table::UnitCall;
 use table::call_number;
-use table::fields_number;
+use table::unit_number;
 
 // A refusal with its number, or the unit that is to be stored.
 pub enum UnitAnswer {
@@ -64,7 +64,7 @@ pub fn unit_answer(unit: u32, act: UnitCall, stage: Stage, u: Unit, readings: &[
             tc,
             count,
         } => {
-            let number = fields_number(Call::Unit { unit, act });
+            let number = unit_number(unit, act);
             if number != 0 {
                 return UnitAnswer::Refused(number);
             }

@@ -10,9 +10,8 @@ use lib.ListN.{length, take, drop, length-append, length-drop}
 use lib.Seq.{take-append-le, drop-append-le}
 use Rattle.basis.specs.Choice.{pick}
 use Rattle.basis.specs.Numbers.{number, numberAt}
-use Rattle.table.specs.Calls.{callOf}
+use Rattle.table.specs.Records.{callOf, formOf, markAt}
 use Rattle.table.specs.Fields.{decode}
-use Rattle.table.specs.Forms.{formOf, markAt}
 use Rattle.record.specs.Reading.{readCall, readMarked, readFound, readAt, partOf}
 use Rattle.table.specs.declared.calls.Call.{Call}
 use Rattle.table.specs.declared.forms.Found.{Found}
@@ -97,7 +96,7 @@ not-record e = let z : _≡_ {A = ℕ} 0 1 = cc in omega arith
 found-more : (s : List ℕ) (at : ℕ) (f : Found) → readFound s at f ≡ End → ⊥
 unfolding readMarked readCall
 found-more s at Nothing e = not-unknown e
-found-more s at (One m) e =
+found-more s at (One m size width) e =
     cut-or (ltb (length s - at) (formOf m .size)) _
     (λ p. cut-or (ltb (length s - at) (formOf m .size + _)) (Record _ _ _) not-record p) e
 

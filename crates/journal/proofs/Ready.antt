@@ -13,8 +13,7 @@ use Rattle.basis.proofs.Choice.{handed-on}
 use Rattle.quantities.specs.Limits.{consumers}
 use Rattle.table.specs.Ranges.{callNumber}
 use Rattle.table.specs.declared.calls.Call.the-variants as call
-use Rattle.table.specs.declared.calls.ConsumerCall.{ConsumerCall}
-use Rattle.table.specs.declared.calls.ConsumerCall.the-variants.{Declare, Meter}
+use Rattle.table.specs.declared.consumers.ConsumerCall.{ConsumerCall}
 use Rattle.state.specs.declared.kept.Stage.{Stage}
 use Rattle.state.specs.declared.kept.Consumer.{Consumer}
 use Rattle.state.specs.declared.kept.Book.{Book}
@@ -25,6 +24,7 @@ use Rattle.close.specs.Close.{realDemand, realsOf, closeNumberFrom, closeNumber
 use Rattle.close.proofs.CloseLaws.{number-from}
 use Rattle.book.specs.Year.{yearNumber, begun, yearOf}
 use Rattle.decision.specs.Consumers.{consumerRest, consumerAfter, consumerNumber, consumerAnswered, consumerAnswerOf}
+use Rattle.decision.proofs.Acts.{declaration-kept}
 use Rattle.decision.specs.declared.consumers.ConsumerAnswer.the-variants.{Refused, Stored}
 
 -- a place for each consumer, and in stage firm what all of them declared and the real demand of each
@@ -49,12 +49,6 @@ map-kept f [] i x e = refl
 map-kept f (y ∷ ys) zero x e = ap (λ v. v ∷ map f ys) e
 map-kept f (y ∷ ys) (suc i) x e = ap (λ l. f y ∷ l) (map-kept f ys i x e)
 
--- in stage firm no call of a consumer changes what it declared
-same-weight : (act : ConsumerCall) (stage : Stage) (x : Consumer) → stageNumber stage ≡ 2 → consumerRest act stage x ≡ 0 → declaredBy (consumerAfter act x .declaration) ≡ declaredBy (x .declaration)
-unfolding consumerRest consumerAfter
-same-weight (Declare d a) stage x s z = absurd (omega (arith, ap (λ n. pick (eqb n 1) 0 4) (sym s) ∙ z))
-same-weight (Meter dreal) stage x s z = refl
-
 -- an answer that stores
 stored : (n : ℕ) (x y : Consumer) → consumerAnswered n x ≡ Stored y → (n ≡ 0) × (x ≡ y)
 stored n x y e = go (eqb n 0) refl e
@@ -75,7 +69,7 @@ ready-stored b total reals consumer act place after r e =
       total-right =
           λ s.
           r .total-right s
-          ∙ sym (ap sum (map-kept (λ y. declaredBy (y .declaration)) (b .consumers) place after (ap (λ (y : Consumer). declaredBy (y .declaration)) (sym (k .1)) ∙ same-weight act (b .stage) x s z)));
+          ∙ sym (ap sum (map-kept (λ y. declaredBy (y .declaration)) (b .consumers) place after (ap (λ (y : Consumer). declaredBy (y .declaration)) (sym (k .1)) ∙ ap declaredBy (declaration-kept act (b .stage) x s z))));
       reals-right =
           λ s. ap (λ l. set l place (realDemand after)) (r .reals-right s) ∙ sym (map-replaced realDemand (b .consumers) place after);
     }

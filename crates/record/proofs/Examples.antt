@@ -3,14 +3,13 @@ use mathlib.Core.Path.{_≡_, refl}
 use mathlib.Core.List.{[], _∷_}
 use Rattle.basis.specs.Numbers.{number}
 use Rattle.basis.specs.Sums.{sum}
-use Rattle.table.specs.Calls.{partsOf, readingsSize}
+use Rattle.table.specs.Records.{partsOf, readingsSize, tableOf, formOf, contractMarks, consumerMarks, unitMarks, bookMarks, findMark}
 use Rattle.table.specs.Fields.{withinAll}
-use Rattle.table.specs.Forms.{tableOf, formOf, marks, findMark}
 use Rattle.table.specs.Ranges.{fieldsNumber, restInRange, callNumber}
 use Rattle.record.specs.Reading.{readAt, stopNumber}
 use Rattle.record.specs.Writing.{writeNumber}
 use Rattle.table.specs.declared.calls.Call.the-variants.{Year, Unit}
-use Rattle.table.specs.declared.calls.UnitCall.the-variants.{Enrol}
+use Rattle.table.specs.declared.units.UnitCall.the-variants.{Enrol}
 
 -- 1: 59
 pub cut-short : stopNumber (readAt (0x59 ∷ []) 0) ≡ 1
@@ -19,7 +18,7 @@ cut-short = refl
 
 -- 2: 00 00
 pub unknown-mark : stopNumber (readAt (0 ∷ 0 ∷ []) 0) ≡ 2
-unfolding readAt findMark marks tableOf formOf number
+unfolding readAt findMark contractMarks consumerMarks unitMarks bookMarks tableOf formOf number
 unknown-mark = refl
 
 -- 3: kind 9

@@ -8,12 +8,10 @@ use lib.ListN.{length, take, drop, length-drop}
 use lib.Seq.{length-take-le}
 use Rattle.basis.specs.Numbers.{numberAt}
 use Rattle.basis.specs.Sums.{sum}
-use Rattle.table.specs.Calls.{callOf, readingsSize}
+use Rattle.table.specs.Records.{callOf, readingsSize, formOf, markAt}
 use Rattle.table.specs.Fields.{decode}
-use Rattle.table.specs.Forms.{formOf, markAt}
 use Rattle.record.specs.Reading.{readCall, readMarked, readFound, readAt, partOf}
 use Rattle.table.specs.declared.calls.Call.{Call}
-use Rattle.table.specs.declared.forms.Form.{Form}
 use Rattle.table.specs.declared.forms.Found.{Found}
 use Rattle.table.specs.declared.forms.Mark.{Mark}
 use Rattle.record.specs.declared.reading.Read.the-variants.{End, Cut, Record}
@@ -32,32 +30,29 @@ pub at-two : (s : List ℕ) (at : ℕ) (f : Found) → at < length s → 2 ≤ l
 unfolding readAt
 at-two s at f h k e = rw (lt-leb (length s) at h, le-ltb (length s - at) 2 k, e)
 
-module _ (s : List ℕ) (at : ℕ) (m : Mark) (f : Form) (e : f ≡ formOf m) where
-  size-of : f .size ≡ formOf m .size
-  size-of = ap (λ (g : Form). g .size) e
-
+module _ (s : List ℕ) (at : ℕ) (m : Mark) (size : ℕ) (size-of : size ≡ formOf m .size) where
   -- the fields are not there
-  pub cut-fields : length s - at < f .size → Cut ≡ readMarked s at m
+  pub cut-fields : length s - at < size → Cut ≡ readMarked s at m
   unfolding readMarked
   cut-fields h = rw (lt-ltb (length s - at) (formOf m .size) (omega (arith, size-of)))
 
-  module _ (h : f .size ≤ length s - at) where
+  module _ (h : size ≤ length s - at) where
     -- the part of the journal that holds the fields has their bytes
-    pub fields-size : at < length s → length (take (at + f .size - (at + 2)) (drop (at + 2) s)) ≡ sum (formOf m .widths)
+    pub fields-size : at < length s → length (take (at + size - (at + 2)) (drop (at + 2) s)) ≡ sum (formOf m .widths)
     fields-size k =
-        let z : f .size ≡ 2 + sum (formOf m .widths) = size-of ∙ lawful m .size in
-        length-take-le (at + f .size - (at + 2)) (drop (at + 2) s) (omega (arith, length-drop (at + 2) s)) ∙ omega arith
+        let z : size ≡ 2 + sum (formOf m .widths) = size-of ∙ lawful m .size in
+        length-take-le (at + size - (at + 2)) (drop (at + 2) s) (omega (arith, length-drop (at + 2) s)) ∙ omega arith
 
     -- so the call of those bytes is that of the journal
     pub fields-call : (c : Call) → at < length s →
-        c ≡ callOf m (decode (formOf m .widths) (take (at + f .size - (at + 2)) (drop (at + 2) s))) →
+        c ≡ callOf m (decode (formOf m .widths) (take (at + size - (at + 2)) (drop (at + 2) s))) →
         c ≡ callOf m (decode (formOf m .widths) (drop (at + 2) s))
     fields-call c k ec =
         ec
-        ∙ ap (callOf m) (decode-part (formOf m .widths) (drop (at + 2) s) (at + f .size - (at + 2)) (omega (arith, fields-size k)))
+        ∙ ap (callOf m) (decode-part (formOf m .widths) (drop (at + 2) s) (at + size - (at + 2)) (omega (arith, fields-size k)))
 
   module _ (c : Call) (n : ℕ)
-      (ec : c ≡ callOf m (decode (formOf m .widths) (drop (at + 2) s))) (en : n ≡ readingsSize c) (h : f .size ≤ length s - at) where
+      (ec : c ≡ callOf m (decode (formOf m .widths) (drop (at + 2) s))) (en : n ≡ readingsSize c) (h : size ≤ length s - at) where
     read-call : readCall s at (formOf m .size) c ≡ readMarked s at m
     unfolding readMarked
     read-call =
@@ -65,23 +60,23 @@ module _ (s : List ℕ) (at : ℕ) (m : Mark) (f : Form) (e : f ≡ formOf m) wh
         (ap (λ (d : Call). readCall s at (formOf m .size) d) ec)
 
     -- the readings are not there
-    pub cut-readings : length s - at - f .size < n → Cut ≡ readMarked s at m
+    pub cut-readings : length s - at - size < n → Cut ≡ readMarked s at m
     unfolding readCall
     cut-readings k =
         rw (lt-ltb (length s - at) (formOf m .size + readingsSize c) (omega (arith, size-of))) at read-call
 
     -- all is there
-    pub whole-record : n ≤ length s - at - f .size → Record c (at + f .size) (at + f .size + n) ≡ readMarked s at m
+    pub whole-record : n ≤ length s - at - size → Record c (at + size) (at + size + n) ≡ readMarked s at m
     unfolding readCall
     whole-record k =
         rw (size-of, en)
         (rw (le-ltb (length s - at) (formOf m .size + readingsSize c) (omega (arith, size-of))) at read-call)
 
     -- and nothing behind the fields
-    pub fields-alone : n ≡ 0 → Record c (at + f .size) (at + f .size) ≡ readMarked s at m
+    pub fields-alone : n ≡ 0 → Record c (at + size) (at + size) ≡ readMarked s at m
     fields-alone z =
-        let b : at + f .size ≡ at + f .size + n = omega arith in
-        ap (λ k. Record c (at + f .size) k) b ∙ whole-record (omega arith)
+        let b : at + size ≡ at + size + n = omega arith in
+        ap (λ k. Record c (at + size) k) b ∙ whole-record (omega arith)
 
 pub no-part : (s : List ℕ) (from to : ℕ) → to < from → [] ≡ partOf s from to
 unfolding partOf

@@ -10,18 +10,16 @@ use lib.Seq.{take-at, drop-at, drop-drop, take-add, take-all, length-take-le, ta
 use Rattle.basis.specs.Numbers.{Bytes, number, bytesOf, numberAt, written}
 use Rattle.basis.specs.Sums.{sum}
 use Rattle.basis.proofs.Numbers.{length-bytesOf, number-bytesOf, bytesOf-number, bytes-take, bytes-drop}
-use Rattle.table.specs.Calls.{partsOf, callOf, readingsSize, fieldsSize, recordSize}
+use Rattle.table.specs.Records.{foundOf, partsOf, callOf, readingsSize, fieldsSize, recordSize, formOf, leastOf, greatestOf, marks, markAt}
 use Rattle.table.specs.Fields.{encode, decode}
-use Rattle.table.specs.Forms.{formOf, leastOf, greatestOf, marks, markAt}
 use Rattle.table.specs.Ranges.{fieldsInRange, callNumber}
 use Rattle.record.specs.Reading.{readAt, partOf}
 use Rattle.record.specs.RoundTrip.{WrittenIsRead, ReadIsWritten, ReadIsPlaced, ReadIsAlone}
 use Rattle.record.specs.Writing.{carried, recordOf, writtenBy}
 use Rattle.table.specs.declared.calls.Call.{Call}
 use Rattle.table.specs.declared.forms.Mark.{Mark}
-use Rattle.table.specs.declared.forms.Found.the-variants.{One}
 use Rattle.table.proofs.Codec.{length-encode, decode-encode, encode-decode, decode-append}
-use Rattle.table.proofs.InRange.{in-range}
+use Rattle.table.proofs.Laws.{in-range}
 use Rattle.record.proofs.Carried.{length-carried}
 use Rattle.record.proofs.Reader.{part-of}
 use Rattle.record.proofs.Shows.{Shows, mark-found, read-shows, shows-read}
@@ -59,7 +57,7 @@ module _ (c : Call) (rs : List ℕ) (e : callNumber c rs ≡ 0) where
     all-record = simp append-assoc
 
     -- the mark is found
-    all-found : markAt (numberAt 2 all 0) ≡ One (partsOf c .mark)
+    all-found : markAt (numberAt 2 all 0) ≡ foundOf (partsOf c .mark)
     unfolding all
     all-found =
         let f = lawful (partsOf c .mark) in
@@ -158,7 +156,7 @@ module _ (s : List ℕ) (at : ℕ) (c : Call) (from next : ℕ) (w : Shows s at 
       let r : carried c rs ≡ rs = take-all (readingsSize c) rs lr in
       let two : length (take 2 (drop at s)) ≡ 2 = length-take-le 2 (drop at s) (omega (arith, length-drop at s, size-law, w .behind, w .there)) in
       let mk : bytesOf 2 (formOf (w .mark) .mark) ≡ take 2 (drop at s) =
-      ap (λ x. bytesOf 2 x) (mark-found (numberAt 2 s at) marks (w .mark) (w .found))
+      ap (λ x. bytesOf 2 x) (mark-found (numberAt 2 s at) marks (w .mark) _ _ (w .found) .mark)
       ∙ ap (λ n. bytesOf n (number (take 2 (drop at s)))) (sym two)
       ∙ bytesOf-number (take 2 (drop at s)) (bytes-take 2 (drop at s) (bytes-drop at s h)) in
       let fs : encode ws (decode ws (drop (at + 2) s)) ≡ take (sum ws) (drop (at + 2) s) =

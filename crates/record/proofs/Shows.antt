@@ -9,9 +9,8 @@ use lib.Dec.{leb, ltb, eqb}
 use lib.ListN.{length, drop}
 use Rattle.basis.specs.Choice.{pick}
 use Rattle.basis.specs.Numbers.{numberAt}
-use Rattle.table.specs.Calls.{callOf, readingsSize}
+use Rattle.table.specs.Records.{callOf, readingsSize, formOf, foundOf, findMark, marks, markAt}
 use Rattle.table.specs.Fields.{decode}
-use Rattle.table.specs.Forms.{formOf, findMark, markAt}
 use Rattle.record.specs.Reading.{readCall, readMarked, readFound, readAt}
 use Rattle.table.specs.declared.calls.Call.{Call}
 use Rattle.table.specs.declared.forms.Found.{Found}
@@ -22,22 +21,33 @@ use Rattle.record.specs.declared.reading.Read.the-variants.{End, Cut, Re
 use Rattle.record.proofs.Reader.{at-two, whole-record}
 use Rattle.table.proofs.Table.{lawful}
 
--- the mark of the record that was found
-pub mark-found : (x : ℕ) (ms : List Mark) (m : Mark) → findMark x ms ≡ One m → formOf m .mark ≡ x
+-- the mark of a record that was found, and the bytes of its fields and of each reading
+pub record Named (x : ℕ) (m : Mark) (size width : ℕ) : Type 0 where
+  pub mark : formOf m .mark ≡ x
+  pub size-right : size ≡ formOf m .size
+  pub width-right : width ≡ formOf m .«reading_width»
+
+pub mark-found : (x : ℕ) (ms : List Mark) (m : Mark) (size width : ℕ) → findMark x ms ≡ One m size width → Named x m size width
 unfolding findMark
-mark-found x [] m e = let z : _≡_ {A = ℕ} 0 1 = cc in absurd (omega arith)
-mark-found x (k ∷ ms) m e = go (eqb x (formOf k .mark)) refl (λ p. mark-found x ms m p) e
+mark-found x [] m size width e = let z : _≡_ {A = ℕ} 0 1 = cc in absurd (omega arith)
+mark-found x (k ∷ ms) m size width e = go (eqb x (formOf k .mark)) refl (λ p. mark-found x ms m size width p) e
   where
-    go : (t : Bool) → eqb x (formOf k .mark) ≡ t → (findMark x ms ≡ One m → formOf m .mark ≡ x) → pick t (One k) (findMark x ms) ≡ One m → formOf m .mark ≡ x
+    go : (t : Bool) → eqb x (formOf k .mark) ≡ t → (findMark x ms ≡ One m size width → Named x m size width) → pick t (foundOf k) (findMark x ms) ≡ One m size width → Named x m size width
     go true h later p =
-        let q : k ≡ m = cc in
-        ap (λ (n : Mark). formOf n .mark) (sym q) ∙ sym (eqb-true x (formOf k .mark) h)
+        let q : k ≡ m = cc p in
+        let a : formOf k .size ≡ size = cc p in
+        let b : formOf k .«reading_width» ≡ width = cc p in
+        record {
+          mark = ap (λ (n : Mark). formOf n .mark) (sym q) ∙ sym (eqb-true x (formOf k .mark) h);
+          size-right = sym a ∙ ap (λ (n : Mark). formOf n .size) q;
+          width-right = sym b ∙ ap (λ (n : Mark). formOf n .«reading_width») q;
+        }
     go false h later p = later p
 
 -- a record of a mark stands at a place, with its readings from one place to another
 pub record Shows (s : List ℕ) (at : ℕ) (c : Call) (from next : ℕ) : Type 0 where
   pub mark : Mark
-  pub found : markAt (numberAt 2 s at) ≡ One mark
+  pub found : markAt (numberAt 2 s at) ≡ foundOf mark
   pub call : c ≡ callOf mark (decode (formOf mark .widths) (drop (at + 2) s))
   pub start : from ≡ at + formOf mark .size
   pub behind : next ≡ at + formOf mark .size + readingsSize c
@@ -55,7 +65,7 @@ module _ (s : List ℕ) (at : ℕ) (c : Call) (from next : ℕ) where
   not-cut : Cut ≡ Record c from next → ⊥
   not-cut e = let z : _≡_ {A = ℕ} 0 1 = cc in omega arith
 
-  marked-shows : (m : Mark) → at < length s → markAt (numberAt 2 s at) ≡ One m → readMarked s at m ≡ Record c from next → Shows s at c from next
+  marked-shows : (m : Mark) → at < length s → markAt (numberAt 2 s at) ≡ foundOf m → readMarked s at m ≡ Record c from next → Shows s at c from next
   unfolding readMarked readCall
   marked-shows m h f e =
       let n : ℕ = formOf m .size in
@@ -71,7 +81,9 @@ module _ (s : List ℕ) (at : ℕ) (c : Call) (from next : ℕ) where
 
   found-shows : (f : Found) → at < length s → markAt (numberAt 2 s at) ≡ f → readFound s at f ≡ Record c from next → Shows s at c from next
   found-shows Nothing h f e = let z : _≡_ {A = ℕ} 0 1 = cc in absurd (omega arith)
-  found-shows (One m) h f e = marked-shows m h f e
+  found-shows (One m size width) h f e =
+      let n = mark-found (numberAt 2 s at) marks m size width f in
+      marked-shows m h (f ∙ ap (λ k. One m k width) (n .size-right) ∙ ap (λ k. One m (formOf m .size) k) (n .width-right)) e
 
   -- a read record shows all that
   pub read-shows : readAt s at ≡ Record c from next → Shows s at c from next
@@ -86,7 +98,7 @@ module _ (s : List ℕ) (at : ℕ) (c : Call) (from next : ℕ) where
   shows-read w =
       let m : Mark = w .mark in
       let z = lawful m .size in
-      sym (at-two s at (One m) (omega arith) (omega arith) (sym (w .found)))
-      ∙ sym (whole-record s at m (formOf m) refl c (readingsSize c) (w .call) refl (omega arith) (omega arith))
+      sym (at-two s at (foundOf m) (omega arith) (omega arith) (sym (w .found)))
+      ∙ sym (whole-record s at m (formOf m .size) refl c (readingsSize c) (w .call) refl (omega arith) (omega arith))
       ∙ ap (λ n. Record c n (at + formOf m .size + readingsSize c)) (sym (w .start))
       ∙ ap (λ n. Record c from n) (sym (w .behind))

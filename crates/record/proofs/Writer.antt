@@ -7,14 +7,12 @@ use borrow.Author.Tests.{eq-eqb, ne-eqb, lt-ltb, le-ltb}
 use lib.ListN.{length}
 use Rattle.basis.specs.Numbers.{bytesOf, written}
 use Rattle.basis.proofs.Numbers.{written-append, length-written}
-use Rattle.table.specs.Calls.{partsOf, recordSize}
+use Rattle.table.specs.Records.{recordSize}
 use Rattle.table.specs.Fields.{encode}
-use Rattle.table.specs.Forms.{formOf}
-use Rattle.table.specs.Ranges.{callNumber}
+use Rattle.table.specs.Ranges.{callNumber, fieldsOf}
 use Rattle.record.specs.Writing.{carried, recordOf, writeNumber, writtenBy}
 use Rattle.table.specs.declared.calls.Call.{Call}
-use Rattle.table.specs.declared.calls.Parts.{Parts}
-use Rattle.table.specs.declared.forms.Form.{Form}
+use Rattle.table.specs.declared.forms.Fields.{Fields}
 
 -- three pieces at the start of a buffer
 pub three-written : (out a b c : List ℕ) (p q : ℕ) → length a ≡ p → p + length b ≡ q → q ≤ length out → written (written (written out 0 a) p b) q c ≡ written out 0 (a ++ (b ++ c))
@@ -32,13 +30,12 @@ three-written out a b c p q h k r =
 pub written-as : (out : List ℕ) {new a b : List ℕ} → a ≡ b → new ≡ written out 0 a → new ≡ written out 0 b
 written-as out h e = e ∙ ap (λ (r : List ℕ). written out 0 r) h
 
--- a record put together of its call's parts
-pub pieces : (c : Call) (p : Parts) (f : Form) (rs part : List ℕ) → p ≡ partsOf c → f ≡ formOf (p .mark) → part ≡ carried c rs → bytesOf 2 (f .mark) ++ (encode (f .widths) (p .values) ++ part) ≡ recordOf c rs
-unfolding recordOf
-pieces c p f rs part ep ef er =
-    ap (λ (r : List ℕ). bytesOf 2 (f .mark) ++ (encode (f .widths) (p .values) ++ r)) er
-    ∙ ap (λ (g : Form). bytesOf 2 (g .mark) ++ (encode (g .widths) (p .values) ++ carried c rs)) ef
-    ∙ ap (λ (q : Parts). bytesOf 2 (formOf (q .mark) .mark) ++ (encode (formOf (q .mark) .widths) (q .values) ++ carried c rs)) ep
+-- a record put together of its call's fields
+pub pieces : (c : Call) (f : Fields) (rs part : List ℕ) → f ≡ fieldsOf c → part ≡ carried c rs → bytesOf 2 (f .form .mark) ++ (encode (f .form .widths) (f .values) ++ part) ≡ recordOf c rs
+unfolding recordOf fieldsOf
+pieces c f rs part ef er =
+    ap (λ (r : List ℕ). bytesOf 2 (f .form .mark) ++ (encode (f .form .widths) (f .values) ++ r)) er
+    ∙ ap (λ (g : Fields). bytesOf 2 (g .form .mark) ++ (encode (g .form .widths) (g .values) ++ carried c rs)) ef
 
 -- the numbers of the writer, and the buffer under each
 module _ (c : Call) (rs : List ℕ) where

@@ -5,9 +5,8 @@ use lib.Dec.{leb, ltb}
 use lib.ListN.{length, take, drop}
 use Rattle.basis.specs.Choice.{pick}
 use Rattle.basis.specs.Numbers.{numberAt}
-use Rattle.table.specs.Calls.{callOf, readingsSize}
+use Rattle.table.specs.Records.{callOf, readingsSize, formOf, markAt}
 use Rattle.table.specs.Fields.{decode}
-use Rattle.table.specs.Forms.{formOf, markAt}
 use Rattle.table.specs.declared.calls.Call.{Call}
 use Rattle.table.specs.declared.forms.Mark.{Mark}
 use Rattle.table.specs.declared.forms.Found.{Found}
@@ -29,7 +28,7 @@ readMarked s at m =
 -- two bytes that are no mark
 abbrev pub readFound : List ℕ → ℕ → Found → Read
 readFound s at Nothing = Unknown
-readFound s at (One m) = readMarked s at m
+readFound s at (One m size width) = readMarked s at m
 
 -- what stands at a place of a journal; one byte that is left over is cut short, whatever it is
 unfoldable pub readAt : List ℕ → ℕ → Read

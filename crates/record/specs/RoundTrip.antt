@@ -4,7 +4,7 @@ use mathlib.Core.List.{List, _++_}
 use Prim.Native.Nat.{ℕ, _-_, _≤_, _<_}
 use lib.ListN.{length, take, drop}
 use Rattle.basis.specs.Numbers.{Bytes, written}
-use Rattle.table.specs.Calls.{fieldsSize, recordSize}
+use Rattle.table.specs.Records.{fieldsSize, recordSize}
 use Rattle.table.specs.Ranges.{callNumber}
 use Rattle.record.specs.Reading.{readAt, partOf}
 use Rattle.record.specs.Writing.{carried, writeNumber, writtenBy}

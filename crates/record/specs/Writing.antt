@@ -5,9 +5,8 @@ use lib.Dec.{eqb, ltb}
 use lib.ListN.{length, take}
 use Rattle.basis.specs.Choice.{pick}
 use Rattle.basis.specs.Numbers.{bytesOf, written}
-use Rattle.table.specs.Calls.{partsOf, readingsSize, recordSize}
+use Rattle.table.specs.Records.{partsOf, readingsSize, recordSize, formOf}
 use Rattle.table.specs.Fields.{encode}
-use Rattle.table.specs.Forms.{formOf}
 use Rattle.table.specs.Ranges.{callNumber}
 use Rattle.table.specs.declared.calls.Call.{Call}
 

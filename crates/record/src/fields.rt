@@ -1,20 +1,11 @@
-// The fields of a record: one read, all written one after the other, and bytes behind them.
+// The fields of a record, written one after the other, and bytes behind them.
 ghost use mathlib.Core.Path.{_≡_};
 ghost use Prim.Native.Nat.{_+_, _≤_};
 ghost use lib.ListN.{length};
-ghost use Rattle.basis.specs.Numbers.{numberAt, written};
+ghost use Rattle.basis.specs.Numbers.{written};
 ghost use Rattle.basis.specs.Sums.{sum};
 ghost use Rattle.table.specs.Fields.{encode};
-ghost use Rattle.table.specs.Forms.{widest};
 use table::FIELDS;
-
-// The number of `width` bytes of a record's fields from `at` on.
-pub fn field_at(fields: &[u8], at: usize, width: usize) -> u32
-    requires { ⌜ (width ≤ widest) × (at + width ≤ length (now fields)) ⌝ }
-    ensures { λ r. ⌜ r ≡ numberAt width (now (fields .entry)) at ⌝ }
-{
-    basis::number_at(fields, at, width) as u32
-}
 
 // The values in these widths, over what stands in out from `at` on.
 pub fn put_fields(out: &mut [u8], at: usize, widths: [usize; FIELDS], values: [u32; FIELDS])

@@ -1,6 +1,5 @@
 // The journal's records: the reader and the writer. It shows the calls of the table too.
-mod fields; // fields.rt: fields read and written
-mod built; // built.rt: a call, built of the bytes of its fields
+mod fields; // fields.rt: fields written
 mod sizes; // sizes.rt: the bytes of a record
 mod reading; // reading.rt: the reader
 mod writing; // writing.rt: the writer
@@ -15,5 +14,4 @@ pub use table::ConsumerCall;
 pub use table::ContractCall;
 pub use table::UnitCall;
 pub use table::call_number;
-pub use table::fields_number;
 pub use writing::write;

@@ -1,16 +1,15 @@
 // The reader: what stands at a place of a journal of any bytes, and the part of it that holds a test's readings.
 ghost use mathlib.Core.Path.{_≡_};
-ghost use Prim.Native.Nat.{_<_, _+_};
+ghost use Prim.Native.Nat.{_<_};
 ghost use lib.ListN.{length};
+ghost use Rattle.table.specs.Records.{formOf};
 ghost use Rattle.record.specs.Reading.{readMarked, readAt, stopNumber, partOf};
-use crate::built::call_of;
-use crate::sizes::readings_behind;
+use crate::sizes::readings_at;
 use table::Call;
 use table::Found;
 use table::Mark;
-use table::form_of;
+use table::call_of;
 use table::mark_at;
-use table::parts_of;
 
 // What stands at a place: nothing, a record that is cut short, an unknown mark, or a whole record.
 pub enum Read {
@@ -25,29 +24,28 @@ pub enum Read {
     },
 }
 
-// The record of a known mark that stands at a place.
-pub fn read_marked(journal: &[u8], at: usize, mark: Mark) -> Read
-    requires { ⌜ at < length (now journal) ⌝ }
+// The place of the count of readings: behind the mark and four fields of a byte.
+const COUNT: usize = 6;
+
+// The record of a known mark that stands at a place, with so many bytes of mark and fields, and of each reading.
+fn read_marked(journal: &[u8], at: usize, mark: Mark, size: usize, width: usize) -> Read
+    requires { ⌜ (at < length (now journal)) × (size ≡ formOf mark .size) × (width ≡ formOf mark .«reading_width») ⌝ }
     ensures { λ r. ⌜ r ≡ readMarked (now (journal .entry)) at mark ⌝ }
 {
-    let form = form_of(mark);
-    let size = form.size;
     let left = journal.len() - at;
     if left < size {
         return Read::Cut;
     }
     let end = at + size;
     let call = call_of(mark, &journal[at + 2..end]);
-    if form.reading_width == 0 {
+    if width == 0 {
         return Read::Record {
             call,
             readings: end,
             next: end,
         };
     }
-    let parts = parts_of(call);
-    let values = parts.values;
-    let more = readings_behind(form.reading_width, values);
+    let more = readings_at(journal, at + COUNT, width);
     if left - size < more {
         return Read::Cut;
     }
@@ -70,7 +68,11 @@ pub fn read_at(journal: &[u8], at: usize) -> Read
     }
     match mark_at(basis::number_at(journal, at, 2) as u32) {
         Found::Nothing => Read::Unknown,
-        Found::One(mark) => read_marked(journal, at, mark),
+        Found::One {
+            mark,
+            size,
+            reading_width,
+        } => read_marked(journal, at, mark, size, reading_width),
     }
 }
 

@@ -1,13 +1,12 @@
 // The bytes of a call's record, and of the readings behind its fields.
 ghost use mathlib.Core.Path.{_≡_};
 ghost use Prim.Native.Nat.{_*_, _<_, _≤_, _^_};
-ghost use lib.ListN.{getD};
-ghost use Rattle.table.specs.Calls.{countPlace, recordSize};
-ghost use Rattle.table.specs.Forms.{widest};
+ghost use lib.ListN.{length, getD};
+ghost use Rattle.basis.specs.Numbers.{numberAt};
+ghost use Rattle.table.specs.Records.{countPlace, recordSize, widest};
 use table::Call;
 use table::FIELDS;
-use table::form_of;
-use table::parts_of;
+use table::fields_of;
 
 // The place of the count of readings among the fields.
 const COUNT: usize = 4;
@@ -20,21 +19,28 @@ fn wide(x: u32) -> usize
 }
 
 // The bytes of the readings, of so many bytes each, behind fields with these values.
-pub fn readings_behind(width: usize, values: [u32; FIELDS]) -> usize
+pub(crate) fn readings_behind(width: usize, values: [u32; FIELDS]) -> usize
     requires { ⌜ width ≤ widest ⌝ }
     ensures { λ r. ⌜ (r ≡ width * getD values countPlace 0) × (r < 2 ^ 34) ⌝ }
 {
     width * wide(values[COUNT])
 }
 
+// The bytes of the readings, of so many bytes each, whose count is the byte at a place.
+pub(crate) fn readings_at(journal: &[u8], at: usize, width: usize) -> usize
+    requires { ⌜ (width ≤ widest) × (at < length (now journal)) ⌝ }
+    ensures { λ r. ⌜ (r ≡ width * numberAt 1 (now (journal .entry)) at) × (r < 2 ^ 10) ⌝ }
+{
+    width * basis::number_at(journal, at, 1) as usize
+}
+
 // The bytes of a call's record.
 pub fn record_size(call: Call) -> usize
     ensures { λ r. ⌜ r ≡ recordSize call ⌝ }
 {
-    let parts = parts_of(call);
-    let mark = parts.mark;
-    let values = parts.values;
-    let form = form_of(mark);
+    let fields = fields_of(call);
+    let form = fields.form;
+    let values = fields.values;
     let size = form.size;
     size + readings_behind(form.reading_width, values)
 }

@@ -5,7 +5,7 @@ ghost use Prim.Native.Nat.{_+_, _≤_};
 ghost use lib.ListN.{length};
 ghost use Rattle.basis.specs.Numbers.{bytesOf, written};
 ghost use Rattle.basis.specs.Sums.{sum};
-ghost use Rattle.table.specs.Calls.{recordSize};
+ghost use Rattle.table.specs.Records.{recordSize};
 ghost use Rattle.table.specs.Fields.{encode};
 ghost use Rattle.table.specs.Ranges.{callNumber};
 ghost use Rattle.record.specs.Writing.{recordOf, writeNumber, writtenBy};
@@ -17,11 +17,10 @@ use table::Call;
 use table::FIELDS;
 use table::Form;
 use table::call_number;
-use table::form_of;
-use table::parts_of;
+use table::fields_of;
 
 // A mark, values in their widths and the bytes of readings, over what stands at the start of out.
-pub fn put_parts(out: &mut [u8], form: Form, values: [u32; FIELDS], readings: &[u8])
+fn put_parts(out: &mut [u8], form: Form, values: [u32; FIELDS], readings: &[u8])
     requires { ⌜ (form .size ≡ 2 + sum (form .widths)) × (form .size + length (now readings) ≤ length (now out)) × (length (form .widths) ≡ length values) ⌝ }
     ensures { λ _. ⌜ now (out .exit) ≡ written (now (out .entry)) 0 (bytesOf 2 (form .mark) ++ (encode (form .widths) values ++ now (readings .entry))) ⌝ }
 {
@@ -34,14 +33,13 @@ pub fn put_parts(out: &mut [u8], form: Form, values: [u32; FIELDS], readings: &[
 }
 
 // A call's record, over what stands at the start of out.
-pub fn put_record(call: Call, readings: &[u8], out: &mut [u8])
+fn put_record(call: Call, readings: &[u8], out: &mut [u8])
     requires { ⌜ (callNumber call (now readings) ≡ 0) × (recordSize call ≤ length (now out)) ⌝ }
     ensures { λ _. ⌜ now (out .exit) ≡ written (now (out .entry)) 0 (recordOf call (now (readings .entry))) ⌝ }
 {
-    let parts = parts_of(call);
-    let mark = parts.mark;
-    let values = parts.values;
-    let form = form_of(mark);
+    let fields = fields_of(call);
+    let form = fields.form;
+    let values = fields.values;
     let more = readings_behind(form.reading_width, values);
     put_parts(out, form, values, &readings[..more]);
 }

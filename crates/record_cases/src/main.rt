@@ -3,10 +3,9 @@
 use libc::STDIN_FILENO;
 use libc::STDOUT_FILENO;
 use record::Call;
-use record::ConsumerCall;
-use record::ContractCall;
 use record::Read;
-use record::UnitCall;
+use table::FIELDS;
+use table::fields_of;
 
 fn put(text: &[u8]) {
     io::write_all(STDOUT_FILENO, text);
@@ -31,103 +30,18 @@ fn put_hex(bytes: &[u8]) {
     }
 }
 
-// The fields of a unit, from its kind on.
-fn put_kind(kind: u32, flags: u32, pic: u32, ppr: u32, e1: u32, e2: u32, cap: u32) {
-    put_field(kind);
-    put_field(flags);
-    put_field(pic);
-    put_field(ppr);
-    put_field(e1);
-    put_field(e2);
-    put_field(cap);
-}
-
-fn put_three(a: u32, b: u32, c: u32) {
-    put_field(a);
-    put_field(b);
-    put_field(c);
-}
-
-// The fields behind the unit.
-fn put_unit(act: UnitCall) {
-    match act {
-        UnitCall::Enrol {
-            producer,
-            kind,
-            flags,
-            pic,
-            ppr,
-            e1,
-            e2,
-            cap,
-        } => {
-            put_field(producer);
-            put_kind(kind, flags, pic, ppr, e1, e2, cap);
-        }
-        UnitCall::Test {
-            component,
-            ending,
-            tc,
-            count,
-        } => {
-            put_field(component);
-            put_three(ending, tc, count);
-        }
-        UnitCall::Availability {
-            component,
-            hd,
-            hmp,
-            hif,
-            hed,
-        } => {
-            put_field(component);
-            put_field(hd);
-            put_three(hmp, hif, hed);
-        }
-    }
-}
-
-// The fields behind the consumer.
-fn put_consumer(act: ConsumerCall) {
-    match act {
-        ConsumerCall::Declare { d, a } => {
-            put_field(d);
-            put_field(a);
-        }
-        ConsumerCall::Meter { dreal } => put_field(dreal),
-    }
-}
-
-// The fields behind the producer and the consumer.
-fn put_contract(act: ContractCall) {
-    match act {
-        ContractCall::Commit { q } => put_field(q),
-        ContractCall::Release { q } => put_field(q),
-    }
-}
-
+// The fields that a call's record has, in the table's order.
 fn put_fields(call: Call) {
-    match call {
-        Call::Year { nhrm, nhmd, ndhmd } => put_three(nhrm, nhmd, ndhmd),
-        Call::Fix { dmp } => put_field(dmp),
-        Call::Close { p } => put_field(p),
-        Call::Unit { unit, act } => {
-            put_field(unit);
-            put_unit(act);
+    let fields = fields_of(call);
+    let form = fields.form;
+    let widths = form.widths;
+    let values = fields.values;
+    let mut i = 0;
+    while i < FIELDS {
+        if widths[i] != 0 {
+            put_field(values[i]);
         }
-        Call::Consumer { consumer, act } => {
-            put_field(consumer);
-            put_consumer(act);
-        }
-        Call::Contract {
-            producer,
-            consumer,
-            act,
-        } => {
-            put_field(producer);
-            put_field(consumer);
-            put_contract(act);
-        }
+        i += 1;
     }
 }
 

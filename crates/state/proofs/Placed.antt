@@ -6,7 +6,7 @@ use native.Mathlib.Omega.{arith}
 use borrow.Author.Tests.{leb-true, le-leb}
 use lib.Dec.{leb}
 use Rattle.basis.specs.Choice.{pick}
-use Rattle.table.proofs.Ranged.{Numbered}
+use Rattle.table.proofs.Laws.{Numbered}
 use Rattle.state.specs.Places.{placeOf}
 
 pub place-below : (greatest n : ℕ) → 0 < greatest → placeOf greatest n < greatest

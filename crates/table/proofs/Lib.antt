@@ -1,6 +1,7 @@
 -- Laws of the table of records.
 pub mod Codec
-pub mod FirstFields
+pub mod Laws
+pub mod UnitLaws
+pub mod ConsumerLaws
+pub mod ContractLaws
 pub mod Table
-pub mod InRange
-pub mod Ranged

@@ -3,17 +3,16 @@ use mathlib.Core.Bool.{Bool, true, false, not}
 use mathlib.Core.List.{List}
 use Prim.Native.Nat.{ℕ}
 use lib.Dec.{eqb}
-use lib.ListN.{drop}
 use Rattle.basis.specs.Choice.{pick, between}
 use Rattle.quantities.specs.Flags.{injectionGiven, reportHeld, flagged}
 use Rattle.power.specs.Ranges.{testInRange}
-use Rattle.table.specs.Calls.{partsOf}
+use Rattle.table.specs.Records.{partsOf, formOf, leastOf, greatestOf}
 use Rattle.table.specs.Fields.{withinAll}
-use Rattle.table.specs.Forms.{leastOf, greatestOf}
 use Rattle.table.specs.declared.calls.Call.{Call}
 use Rattle.table.specs.declared.calls.Call.the-variants.{Year, Fix, Close, Unit, Consumer, Contract}
-use Rattle.table.specs.declared.calls.UnitCall.{UnitCall}
-use Rattle.table.specs.declared.calls.UnitCall.the-variants.{Enrol, Test, Availability}
+use Rattle.table.specs.declared.units.UnitCall.{UnitCall}
+use Rattle.table.specs.declared.units.UnitCall.the-variants.{Enrol, Test, Availability}
+use Rattle.table.specs.declared.forms.Fields.{Fields}
 use Rattle.table.specs.declared.unused.Uses.{Uses}
 
 -- flag 16 serves kinds 1 and 2, PPR kind 2, E1 kinds 3 to 8, E2 and CAP kind 8
@@ -63,14 +62,9 @@ restInRange (Unit unit act) readings = unitInRange act readings
 restInRange (Consumer consumer act) readings = true
 restInRange (Contract producer consumer act) readings = true
 
--- the fields of the call from a place on stand in the ranges of the table
-abbrev pub fieldsFrom : ℕ → Call → Bool
-fieldsFrom i c =
-    withinAll (drop i (leastOf (partsOf c .mark))) (drop i (greatestOf (partsOf c .mark))) (drop i (partsOf c .values))
-
--- each field of the call does
+-- each field of the call stands in its range of the table
 abbrev pub fieldsInRange : Call → Bool
-fieldsInRange c = fieldsFrom 0 c
+fieldsInRange c = withinAll (leastOf (partsOf c .mark)) (greatestOf (partsOf c .mark)) (partsOf c .values)
 
 -- 3 where a field of the call is out of range, else 0
 unfoldable pub fieldsNumber : Call → ℕ
@@ -79,3 +73,8 @@ fieldsNumber c = pick (fieldsInRange c) 0 3
 -- 3 where a field of the call, or what is lent with a test, is out of range, else 0
 unfoldable pub callNumber : Call → List ℕ → ℕ
 callNumber c readings = pick (eqb (fieldsNumber c) 0) (pick (restInRange c readings) 0 3) (fieldsNumber c)
+
+-- a call's fields as its record has them: the form, the values, and whether each is in range
+unfoldable pub fieldsOf : Call → Fields
+fieldsOf c =
+    record { form = formOf (partsOf c .mark); values = partsOf c .values; «in_range» = fieldsInRange c }

@@ -1,49 +1,33 @@
-// The calls of the table of records, by value, and the fields of each.
+// The calls by what they concern, the record of each, and the fields of any.
 ghost use mathlib.Core.Path.{_≡_};
-ghost use Rattle.table.specs.Calls.{partsOf};
-ghost use Rattle.table.specs.declared.calls.Call.the-variants.{Unit, Consumer, Contract};
-use crate::forms::FIELDS;
+ghost use lib.ListN.{length};
+ghost use Rattle.basis.specs.Sums.{sum};
+ghost use Rattle.table.specs.Fields.{decode};
+ghost use Rattle.table.specs.Records.{bookMarks, findMark, markAt, formOf, callOf};
+ghost use Rattle.table.specs.Ranges.{fieldsOf};
+use crate::consumers::ConsumerCall;
+use crate::consumers::consumer_call;
+use crate::consumers::consumer_fields;
+use crate::consumers::consumer_mark_at;
+use crate::contracts::ContractCall;
+use crate::contracts::contract_call;
+use crate::contracts::contract_fields;
+use crate::contracts::contract_mark_at;
+use crate::forms::Fields;
+use crate::forms::Form;
+use crate::forms::Found;
 use crate::forms::Mark;
-
-// What is asked of a unit, with the fields of its record behind the unit. A test's readings are lent beside the call, four bytes each, low
-// byte first.
-pub enum UnitCall {
-    Enrol {
-        producer: u32,
-        kind: u32,
-        flags: u32,
-        pic: u32,
-        ppr: u32,
-        e1: u32,
-        e2: u32,
-        cap: u32,
-    },
-    Test {
-        component: u32,
-        ending: u32,
-        tc: u32,
-        count: u32,
-    },
-    Availability {
-        component: u32,
-        hd: u32,
-        hmp: u32,
-        hif: u32,
-        hed: u32,
-    },
-}
-
-// What is told of a consumer.
-pub enum ConsumerCall {
-    Declare { d: u32, a: u32 },
-    Meter { dreal: u32 },
-}
-
-// What is done to a contract.
-pub enum ContractCall {
-    Commit { q: u32 },
-    Release { q: u32 },
-}
+use crate::single::both;
+use crate::single::field_at;
+use crate::single::is_between;
+use crate::units::UnitCall;
+use crate::units::unit_call;
+use crate::units::unit_fields;
+use crate::units::unit_mark_at;
+use quantities::GREATEST_DAY_HOURS;
+use quantities::GREATEST_HOURS;
+use quantities::GREATEST_POWER;
+use quantities::GREATEST_PRICE;
 
 // A call by what it concerns, with its fields in the table's order: the whole book, a unit, a consumer, or a producer's contract with a
 // consumer.
@@ -74,107 +58,136 @@ pub enum Call {
     },
 }
 
-// A call's record and the values of its fields, 0 where there is no field.
-pub struct Parts {
-    pub mark: Mark,
-    pub values: [u32; FIELDS],
-}
+// The marks of the records of the whole book as numbers, low byte first, 59 52 is 0x5259, and the bytes of mark and fields.
+const YEAR: u32 = 0x5259;
 
-// The records of a unit.
-fn unit_parts(unit: u32, act: UnitCall) -> Parts
-    ensures { λ r. ⌜ r ≡ partsOf (Unit unit act) ⌝ }
+const YEAR_SIZE: usize = 7;
+
+const FIX: u32 = 0x5846;
+
+const FIX_SIZE: usize = 6;
+
+const CLOSE: u32 = 0x4C43;
+
+const CLOSE_SIZE: usize = 4;
+
+// The record of the whole book whose mark is the number.
+fn book_mark_at(number: u32) -> Found
+    ensures { λ r. ⌜ r ≡ findMark number bookMarks ⌝ }
 {
-    match act {
-        UnitCall::Enrol {
-            producer,
-            kind,
-            flags,
-            pic,
-            ppr,
-            e1,
-            e2,
-            cap,
-        } => Parts {
-            mark: Mark::Unit,
-            values: [unit, producer, kind, flags, pic, ppr, e1, e2, cap],
+    match number {
+        YEAR => Found::One {
+            mark: Mark::Year,
+            size: YEAR_SIZE,
+            reading_width: 0,
         },
-        UnitCall::Test {
-            component,
-            ending,
-            tc,
-            count,
-        } => Parts {
-            mark: Mark::Test,
-            values: [unit, component, ending, tc, count, 0, 0, 0, 0],
+        FIX => Found::One {
+            mark: Mark::Fix,
+            size: FIX_SIZE,
+            reading_width: 0,
         },
-        UnitCall::Availability {
-            component,
-            hd,
-            hmp,
-            hif,
-            hed,
-        } => Parts {
-            mark: Mark::Availability,
-            values: [unit, component, hd, hmp, hif, hed, 0, 0, 0],
+        CLOSE => Found::One {
+            mark: Mark::Close,
+            size: CLOSE_SIZE,
+            reading_width: 0,
         },
+        _ => Found::Nothing,
     }
 }
 
-// The records of a consumer.
-fn consumer_parts(consumer: u32, act: ConsumerCall) -> Parts
-    ensures { λ r. ⌜ r ≡ partsOf (Consumer consumer act) ⌝ }
+// The record whose mark is the number.
+pub fn mark_at(number: u32) -> Found
+    ensures { λ r. ⌜ r ≡ markAt number ⌝ }
 {
-    match act {
-        ConsumerCall::Declare { d, a } => Parts {
-            mark: Mark::Declare,
-            values: [consumer, d, a, 0, 0, 0, 0, 0, 0],
-        },
-        ConsumerCall::Meter { dreal } => Parts {
-            mark: Mark::Meter,
-            values: [consumer, dreal, 0, 0, 0, 0, 0, 0, 0],
-        },
+    let contract = contract_mark_at(number);
+    match contract {
+        Found::One { .. } => contract,
+        Found::Nothing => {
+            let consumer = consumer_mark_at(number);
+            match consumer {
+                Found::One { .. } => consumer,
+                Found::Nothing => {
+                    let unit = unit_mark_at(number);
+                    match unit {
+                        Found::One { .. } => unit,
+                        Found::Nothing => book_mark_at(number),
+                    }
+                }
+            }
+        }
     }
 }
 
-// The records of a contract.
-fn contract_parts(producer: u32, consumer: u32, act: ContractCall) -> Parts
-    ensures { λ r. ⌜ r ≡ partsOf (Contract producer consumer act) ⌝ }
+// The call of a record whose fields are these bytes.
+pub fn call_of(mark: Mark, fields: &[u8]) -> Call
+    requires { ⌜ length (now fields) ≡ sum (formOf mark .widths) ⌝ }
+    ensures { λ r. ⌜ r ≡ callOf mark (decode (formOf mark .widths) (now (fields .entry))) ⌝ }
 {
-    match act {
-        ContractCall::Commit { q } => Parts {
-            mark: Mark::Commit,
-            values: [producer, consumer, q, 0, 0, 0, 0, 0, 0],
+    match mark {
+        Mark::Year => Call::Year {
+            nhrm: field_at(fields, 0, 2),
+            nhmd: field_at(fields, 2, 2),
+            ndhmd: field_at(fields, 4, 1),
         },
-        ContractCall::Release { q } => Parts {
-            mark: Mark::Release,
-            values: [producer, consumer, q, 0, 0, 0, 0, 0, 0],
+        Mark::Fix => Call::Fix {
+            dmp: field_at(fields, 0, 4),
         },
+        Mark::Close => Call::Close {
+            p: field_at(fields, 0, 2),
+        },
+        Mark::Unit(unit) => unit_call(unit, fields),
+        Mark::Consumer(consumer) => consumer_call(consumer, fields),
+        Mark::Contract(contract) => contract_call(contract, fields),
     }
 }
 
-// The record of each call, and its fields in the table's order.
-pub fn parts_of(call: Call) -> Parts
-    ensures { λ r. ⌜ r ≡ partsOf call ⌝ }
+// The fields of any call.
+pub fn fields_of(call: Call) -> Fields
+    ensures { λ r. ⌜ r ≡ fieldsOf call ⌝ }
 {
     match call {
-        Call::Year { nhrm, nhmd, ndhmd } => Parts {
-            mark: Mark::Year,
+        Call::Year { nhrm, nhmd, ndhmd } => Fields {
+            form: Form {
+                mark: YEAR,
+                size: YEAR_SIZE,
+                widths: [2, 2, 1, 0, 0, 0, 0, 0, 0],
+                reading_width: 0,
+            },
             values: [nhrm, nhmd, ndhmd, 0, 0, 0, 0, 0, 0],
+            in_range: both(
+                is_between(1, GREATEST_HOURS, nhrm),
+                both(
+                    is_between(1, GREATEST_HOURS, nhmd),
+                    is_between(1, GREATEST_DAY_HOURS, ndhmd),
+                ),
+            ),
         },
-        Call::Fix { dmp } => Parts {
-            mark: Mark::Fix,
+        Call::Fix { dmp } => Fields {
+            form: Form {
+                mark: FIX,
+                size: FIX_SIZE,
+                widths: [4, 0, 0, 0, 0, 0, 0, 0, 0],
+                reading_width: 0,
+            },
             values: [dmp, 0, 0, 0, 0, 0, 0, 0, 0],
+            in_range: is_between(1, GREATEST_POWER, dmp),
         },
-        Call::Close { p } => Parts {
-            mark: Mark::Close,
+        Call::Close { p } => Fields {
+            form: Form {
+                mark: CLOSE,
+                size: CLOSE_SIZE,
+                widths: [2, 0, 0, 0, 0, 0, 0, 0, 0],
+                reading_width: 0,
+            },
             values: [p, 0, 0, 0, 0, 0, 0, 0, 0],
+            in_range: is_between(1, GREATEST_PRICE, p),
         },
-        Call::Unit { unit, act } => unit_parts(unit, act),
-        Call::Consumer { consumer, act } => consumer_parts(consumer, act),
+        Call::Unit { unit, act } => unit_fields(unit, act),
+        Call::Consumer { consumer, act } => consumer_fields(consumer, act),
         Call::Contract {
             producer,
             consumer,
             act,
-        } => contract_parts(producer, consumer, act),
+        } => contract_fields(producer, consumer, act),
     }
 }

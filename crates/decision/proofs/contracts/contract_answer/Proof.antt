@@ -11,8 +11,8 @@ use Rattle.basis.specs.Choice.{pick}
 use Rattle.basis.specs.Sums.{sum}
 use Rattle.basis.proofs.Answers.{answered-yes, answered-no}
 use Rattle.quantities.specs.Limits.{consumers}
-use Rattle.table.specs.declared.calls.ContractCall.{ContractCall}
-use Rattle.table.proofs.Ranged.{ContractRanged, amountOf, contract-numbered}
+use Rattle.table.specs.declared.contracts.ContractCall.{ContractCall}
+use Rattle.table.proofs.ContractLaws.{ContractRanged, amountOf, contract-numbered}
 use Rattle.state.specs.declared.kept.Stage.the-variants.{Firm}
 use Rattle.state.specs.State.{cellOf, rowOf}
 use Rattle.state.proofs.RangeStage.{range-then-stage}
@@ -23,17 +23,17 @@ use Rattle.decision.proofs.contracts.contract_answer.Statement.{stateme
 use Rattle.decision.proofs.contracts.contract_answer.Tie as tie
 
 -- what passed the ranges has a producer and a consumer of the book
-ranges : (w : tie.After-call-number) → w .call-number .result ≡ 0 → ContractRanged (w .before .before .args .producer) (w .before .before .args .consumer) (amountOf (w .before .before .args .act))
-ranges w z = contract-numbered (w .before .before .args .producer) (w .before .before .args .consumer) (w .before .before .args .act) _ (sym (w .call-number .ensures) ∙ z)
+ranges : (w : tie.After-contract-number) → w .contract-number .result ≡ 0 → ContractRanged (w .before .args .producer) (w .before .args .consumer) (amountOf (w .before .args .act))
+ranges w z = contract-numbered (w .before .args .producer) (w .before .args .consumer) (w .before .args .act) _ (sym (w .contract-number .ensures) ∙ z)
 
 returns : tie.Need-returns
 unfolding contractAnswerOf contractNumber
-returns c = simp (← c .before .call-number .ensures, ne-eqb _ 0 (c .if1 .taken))
+returns c = simp (← c .before .contract-number .ensures, ne-eqb _ 0 (c .if1 .taken))
 
 returns-2 : tie.Need-returns-2
 unfolding contractAnswerOf contractNumber
 returns-2 c =
-    simp (← c .before .before .before .call-number .ensures, c .before .before .if1 .left, ← c .before .stage-number .ensures, ne-eqb _ _ (c .if2 .taken))
+    simp (← c .before .before .before .contract-number .ensures, c .before .before .if1 .left, ← c .before .stage-number .ensures, ne-eqb _ _ (c .if2 .taken))
 
 sub-column : tie.Need-sub-column
 sub-column c = omega (arith, ranges (c .before .before .before) (c .before .before .if1 .left) .consumer .least)
@@ -41,10 +41,10 @@ sub-column c = omega (arith, ranges (c .before .before .before) (c .before .befo
 returns-3 : tie.Need-returns-3
 unfolding contractAnswerOf contractNumber
 returns-3 c =
-    simp (← c .before .before .before .before .before .call-number .ensures, c .before .before .before .before .if1 .left, ← c .before .before .before .stage-number .ensures, c .before .before .if2 .left, answered-no (c .before .is-declared .ensures) (c .if3 .taken))
+    simp (← c .before .before .before .before .before .contract-number .ensures, c .before .before .before .before .if1 .left, ← c .before .before .before .stage-number .ensures, c .before .before .if2 .left, answered-no (c .before .is-declared .ensures) (c .if3 .taken))
 
 -- from here on the call is in range
-placed : (w : tie.After-is-declared) → ContractRanged (w .before .before .before .before .before .before .args .producer) (w .before .before .before .before .before .before .args .consumer) (amountOf (w .before .before .before .before .before .before .args .act))
+placed : (w : tie.After-is-declared) → ContractRanged (w .before .before .before .before .before .args .producer) (w .before .before .before .before .before .args .consumer) (amountOf (w .before .before .before .before .before .args .act))
 placed w = ranges (w .before .before .before .before) (w .before .before .before .if1 .left)
 
 sub-row : tie.Need-sub-row
@@ -63,28 +63,28 @@ row-sum-requires c κs = let r = placed (c .before .before .before .before .befo
 
 commit-answer-requires : tie.Need-commit-answer-requires
 commit-answer-requires c κs =
-    let a = c .before .before .before .before .before .before .before .before .before .before .before .before .before .args in
+    let a = c .before .before .before .before .before .before .before .before .before .before .before .before .args in
     let r = placed (c .before .before .before .before .before .before .before) in
     (omega (arith, c .row-sum .ensures .0, in-row (now (a .balances)) ((a .producer - 1) * consumers) consumers (a .consumer - 1) (omega (arith, r .consumer .least, r .consumer .most))), c .row-sum .ensures .1)
 
 -- what is asked, once ranges, stage and declaration let it pass
-asked : (w : tie.After-is-declared) → isDeclared (w .before .before .before .before .before .before .args .declaration) ≡ true → w .before .before .stage-number .result ≡ 2 → (act : ContractCall) → w .before .before .before .before .before .before .args .act ≡ act → balanceAnswered (contractRest act (getD (now (w .before .before .before .before .before .before .args .limits)) (w .before .before .before .before .before .before .args .producer - 1) 0) (sum (rowOf (now (w .before .before .before .before .before .before .args .balances)) (w .before .before .before .before .before .before .args .producer))) (getD (now (w .before .before .before .before .before .before .args .balances)) (cellOf (w .before .before .before .before .before .before .args .producer) (w .before .before .before .before .before .before .args .consumer)) 0)) (cellOf (w .before .before .before .before .before .before .args .producer) (w .before .before .before .before .before .before .args .consumer)) (balanceAfter act (getD (now (w .before .before .before .before .before .before .args .balances)) (cellOf (w .before .before .before .before .before .before .args .producer) (w .before .before .before .before .before .before .args .consumer)) 0)) ≡ contractAnswerOf (w .before .before .before .before .before .before .args .producer) (w .before .before .before .before .before .before .args .consumer) (w .before .before .before .before .before .before .args .act) (w .before .before .before .before .before .before .args .stage) (w .before .before .before .before .before .before .args .declaration) (now (w .before .before .before .before .before .before .args .balances)) (now (w .before .before .before .before .before .before .args .limits))
+asked : (w : tie.After-is-declared) → isDeclared (w .before .before .before .before .before .args .declaration) ≡ true → w .before .before .stage-number .result ≡ 2 → (act : ContractCall) → w .before .before .before .before .before .args .act ≡ act → balanceAnswered (contractRest act (getD (now (w .before .before .before .before .before .args .limits)) (w .before .before .before .before .before .args .producer - 1) 0) (sum (rowOf (now (w .before .before .before .before .before .args .balances)) (w .before .before .before .before .before .args .producer))) (getD (now (w .before .before .before .before .before .args .balances)) (cellOf (w .before .before .before .before .before .args .producer) (w .before .before .before .before .before .args .consumer)) 0)) (cellOf (w .before .before .before .before .before .args .producer) (w .before .before .before .before .before .args .consumer)) (balanceAfter act (getD (now (w .before .before .before .before .before .args .balances)) (cellOf (w .before .before .before .before .before .args .producer) (w .before .before .before .before .before .args .consumer)) 0)) ≡ contractAnswerOf (w .before .before .before .before .before .args .producer) (w .before .before .before .before .before .args .consumer) (w .before .before .before .before .before .args .act) (w .before .before .before .before .before .args .stage) (w .before .before .before .before .before .args .declaration) (now (w .before .before .before .before .before .args .balances)) (now (w .before .before .before .before .before .args .limits))
 unfolding contractAnswerOf contractNumber
 asked w t s act e =
-    let a = w .before .before .before .before .before .before .args in
+    let a = w .before .before .before .before .before .args in
     let cell : ℕ = cellOf (a .producer) (a .consumer) in
     let balance : ℕ = getD (now (a .balances)) cell 0 in
     let limit : ℕ = getD (now (a .limits)) (a .producer - 1) 0 in
     let total : ℕ = sum (rowOf (now (a .balances)) (a .producer)) in
     ap (λ (k : ContractCall). balanceAnswered (contractRest k limit total balance) cell (balanceAfter k balance)) (sym e)
     ∙ ap (λ u. balanceAnswered (pick u (contractRest (a .act) limit total balance) 10) cell (balanceAfter (a .act) balance)) (sym t)
-    ∙ ap (λ n. balanceAnswered n cell (balanceAfter (a .act) balance)) (range-then-stage {own = Firm} {stage = a .stage} {rest = pick (isDeclared (a .declaration)) (contractRest (a .act) limit total balance) 10} .own-stage (w .before .before .before .before .call-number .ensures) (w .before .before .before .if1 .left) (w .before .before .stage-number .ensures) s)
+    ∙ ap (λ n. balanceAnswered n cell (balanceAfter (a .act) balance)) (range-then-stage {own = Firm} {stage = a .stage} {rest = pick (isDeclared (a .declaration)) (contractRest (a .act) limit total balance) 10} .own-stage (w .before .before .before .before .contract-number .ensures) (w .before .before .before .if1 .left) (w .before .before .stage-number .ensures) s)
 
 returns-4 : tie.Need-returns-4
 unfolding contractRest balanceAfter
 returns-4 c =
     let w = c .before .before .before .before .before .before .before .before in
-    let a = w .before .before .before .before .before .before .args in
+    let a = w .before .before .before .before .before .args in
     let cell : ℕ = cellOf (a .producer) (a .consumer) in
     let q : ℕ = c .before .before .before .before .act .given .0 .0 in
     c .commit-answer .ensures
@@ -102,7 +102,6 @@ pub contract-answer-spec : {M : Type 1} → statement M
 contract-answer-spec =
     tie.close
     (tie.spec
-    (λ c. search needs)
     (λ c κs. search needs)
     returns
     (λ c κs. search needs)

@@ -8,7 +8,7 @@ use lib.Dec.{eqb}
 use Rattle.basis.specs.Choice.{pick}
 use Rattle.table.specs.Ranges.{callNumber}
 use Rattle.table.specs.declared.calls.Call.the-variants.{Unit as OfUnit}
-use Rattle.table.specs.declared.calls.UnitCall.{UnitCall}
+use Rattle.table.specs.declared.units.UnitCall.{UnitCall}
 use Rattle.state.specs.declared.kept.Stage.{Stage}
 use Rattle.state.specs.declared.kept.Stage.the-variants.{Gathering}
 use Rattle.state.specs.declared.kept.Unit.{Unit}
@@ -45,7 +45,7 @@ unfolding unitAnswerOf unitNumber
 returns-2 c =
     let a = c .before .before .before .before .before .before .args in
     let k = c .before .before .before .act2 .given in
-    rw (k .1) (refused-by _ Refused (fields-refuse _ (now (a .readings)) _ (c .before .fields-number .ensures) (c .if2 .taken)) (c .if2 .taken))
+    rw (k .1) (refused-by _ Refused (fields-refuse _ (now (a .readings)) _ (c .before .unit-number .ensures) (c .if2 .taken)) (c .if2 .taken))
 
 returns-3 : tie.Need-returns-3
 returns-3 c =
@@ -67,7 +67,7 @@ returns-5 c =
     let a = c .before .before .before .before .before .before .before .args in
     let k = c .before .before .before .before .act2 .given in
     c .test-answer .ensures
-    ∙ rw (k .1) (ap (λ n. unitAnswered n (testedUnit (a .u) (k .0 .0) (k .0 .1 .0) (k .0 .1 .1 .0) (k .0 .1 .1 .1 .0) (now (a .readings)))) (test-in-fields (a .unit) (k .0 .0) (k .0 .1 .0) (k .0 .1 .1 .0) (k .0 .1 .1 .1 .0) (now (a .readings)) _ (c .before .before .fields-number .ensures) (c .before .if2 .left)))
+    ∙ rw (k .1) (ap (λ n. unitAnswered n (testedUnit (a .u) (k .0 .0) (k .0 .1 .0) (k .0 .1 .1 .0) (k .0 .1 .1 .1 .0) (now (a .readings)))) (test-in-fields (a .unit) (k .0 .0) (k .0 .1 .0) (k .0 .1 .1 .0) (k .0 .1 .1 .1 .0) (now (a .readings)) _ (c .before .before .unit-number .ensures) (c .before .if2 .left)))
 
 returns-6 : tie.Need-returns-6
 unfolding unitRest unitAfter

@@ -11,7 +11,7 @@ use Rattle.basis.proofs.Sums.{sum-next}
 use Rattle.basis.specs.Numbers.{written}
 use Rattle.basis.specs.Sums.{sum}
 use Rattle.table.specs.Fields.{encode}
-use Rattle.table.specs.Forms.{mostFields}
+use Rattle.table.specs.Records.{mostFields}
 use Rattle.record.proofs.Turns.{encode-more, encode-end}
 use Rattle.record.proofs.fields.put_fields.Statement.{statement}
 use Rattle.record.proofs.fields.put_fields.Tie as tie

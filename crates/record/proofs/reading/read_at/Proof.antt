@@ -1,14 +1,18 @@
 -- `record::reading::read_at` meets its contract: by the lengths compared and the mark found.
 -- Assumes nothing.
-use mathlib.Core.Path.{sym, ap, _∙_}
+use mathlib.Core.Path.{_≡_, sym, ap, _∙_}
+use Prim.Native.Nat.{ℕ}
 use native.Mathlib.Omega.{arith}
 use borrow.Author.Needs.{needs}
 use denote.Ref.{now}
 use Rattle.basis.proofs.Numbers.{number-at-below}
-use Rattle.table.specs.Forms.{markAt}
+use Rattle.table.specs.Records.{marks, markAt}
 use Rattle.record.specs.Reading.{readFound}
 use Rattle.table.specs.declared.forms.Found.{Found}
+use Rattle.table.specs.declared.forms.Found.the-variants.{One}
+use Rattle.table.specs.declared.forms.Mark.{Mark}
 use Rattle.record.proofs.Reader.{at-end, at-one, at-two}
+use Rattle.record.proofs.Shows.{Named, mark-found}
 use Rattle.record.proofs.reading.read_at.Statement.{statement}
 use Rattle.record.proofs.reading.read_at.Tie as tie
 
@@ -26,6 +30,16 @@ cast-mark-at : tie.Need-cast-mark-at
 cast-mark-at c =
     let a = c .before .before .before .before .args in
     omega (arith, c .number-at .ensures, number-at-below 2 (now (a .journal)) (a .at) (λ k. omega (arith, c .before .before .before .shared-slice-known .given k)))
+
+-- the mark that was found names the record, with its sizes
+named : (w : tie.After-mark-at) {m : Mark} {size width : ℕ} → w .mark-at .result ≡ One m size width → Named (w .before .number-at .result) m size width
+named w {m} {size} {width} e =
+    mark-found (w .before .number-at .result) marks m size width (sym (w .mark-at .ensures) ∙ e)
+
+read-marked-requires : tie.Need-read-marked-requires
+read-marked-requires c κs =
+    let k = named (c .before .before .before) (c .before .mark .given .1) in
+    (c .before .before .before .before .before .before .if1 .left, k .size-right, k .width-right)
 
 returns-3 : tie.Need-returns-3
 returns-3 c =
@@ -54,6 +68,6 @@ read-at-spec =
     (λ c κs. search needs)
     (λ c. search needs)
     (λ c. search needs)
-    (λ c κs. search needs)
+    read-marked-requires
     returns-3
     returns-4)

@@ -5,7 +5,7 @@ use Prim.Native.Nat.{_-_, _*_, _^_, _≤_, _<_}
 use native.Mathlib.Nat.{mul-le-mul}
 use native.Mathlib.Omega.{arith}
 use borrow.Author.Needs.{needs}
-use Rattle.table.specs.Forms.{widest}
+use Rattle.table.specs.Records.{widest}
 use Rattle.record.proofs.sizes.readings_behind.Statement.{statement}
 use Rattle.record.proofs.sizes.readings_behind.Tie as tie
 

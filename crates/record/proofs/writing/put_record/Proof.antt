@@ -1,33 +1,35 @@
 -- `record::writing::put_record` meets its contract: the pieces are those of the call's record.
 -- Assumes nothing.
 use mathlib.Core.Path.{_≡_, sym, ap, _∙_}
-use Prim.Native.Nat.{_+_}
+use Prim.Native.Nat.{_+_, _≤_}
 use native.Mathlib.Omega.{arith}
 use borrow.Author.Needs.{needs}
 use lib.ListN.{length-take, length, take}
 use denote.Ref.{now}
 use Rattle.basis.specs.Sums.{sum}
-use Rattle.table.specs.Calls.{fieldsSize, readingsSize}
-use Rattle.table.specs.Forms.{formOf}
-use Rattle.table.specs.declared.calls.Parts.{Parts}
-use Rattle.table.specs.declared.forms.Form.{Form}
-use Rattle.table.proofs.InRange.{in-range, readings-lent}
-use Rattle.table.proofs.Table.{lawful, narrow-reading, readings-by-parts, of-parts}
+use Rattle.table.specs.Records.{widest, partsOf, formOf, fieldsSize, readingsSize}
+use Rattle.table.specs.Ranges.{fieldsOf}
+use Rattle.table.specs.declared.forms.Fields.{Fields}
+use Rattle.table.proofs.Laws.{in-range}
+use Rattle.table.proofs.Table.{lawful, of-parts, narrow-reading, readings-by-fields}
 use Rattle.record.proofs.Writer.{written-as, pieces}
 use Rattle.record.proofs.writing.put_record.Statement.{statement}
 use Rattle.record.proofs.writing.put_record.Tie as tie
 
+narrow : (w : tie.After-fields-of) → w .fields-of .result .form .«reading_width» ≤ widest
+unfolding fieldsOf
+narrow w =
+    omega (arith, ap (λ (f : Fields). f .form .«reading_width») (w .fields-of .ensures), narrow-reading (partsOf (w .before .before .before .args .call) .mark))
+
 readings-behind-requires : tie.Need-readings-behind-requires
-readings-behind-requires c κs =
-    narrow-reading (c .before .before .parts-of .result .mark) (c .form-of .result) (c .form-of .ensures)
+readings-behind-requires c κs = narrow (c .before .before)
 
 -- the bytes of the readings are those of the call
 readings-size : (w : tie.After-readings-behind) → w .readings-behind .result ≡ readingsSize (w .before .before .before .before .before .before .args .call)
 readings-size w =
-    let f = w .before .form-of in
-    let p = w .before .before .before .parts-of in
+    let f = w .before .before .before .fields-of in
     w .readings-behind .ensures .0
-    ∙ readings-by-parts (w .before .before .before .before .before .before .args .call) (p .result) (f .result) (p .ensures) (f .ensures)
+    ∙ readings-by-fields (w .before .before .before .before .before .before .args .call) (f .result) (f .ensures)
 
 slice-aggregate-put-parts : tie.Need-slice-aggregate-put-parts
 slice-aggregate-put-parts c =
@@ -35,42 +37,37 @@ slice-aggregate-put-parts c =
     let start = w .before .before .before .before .before .before in
     let k = start .args .call in
     let rs = now (start .args .readings) in
-    omega (arith, length-take (w .readings-behind .result) rs, readings-size w, readings-lent k rs (in-range k rs (start .pre .0) .1))
+    omega (arith, length-take (w .readings-behind .result) rs, readings-size w, of-parts k .lent rs (in-range k rs (start .pre .0) .1))
 
 put-parts-requires : tie.Need-put-parts-requires
+unfolding fieldsOf
 put-parts-requires c κs =
     let w = c .before .before in
-    let f = w .before .form-of in
-    let p = w .before .before .before .parts-of in
+    let f = w .before .before .before .fields-of in
     let start = w .before .before .before .before .before .before in
+    let k = start .args .call in
     let rs = now (start .args .readings) in
-    let z : f .result .size ≡ fieldsSize (start .args .call) =
-    ap (λ (g : Form). g .size) (f .ensures) ∙ ap (λ (q : Parts). formOf (q .mark) .size) (p .ensures) in (
-      ap (λ (g : Form). g .size) (f .ensures) ∙ lawful (p .result .mark) .size ∙ ap (λ (g : Form). 2 + sum (g .widths)) (sym (f .ensures)),
+    let z : f .result .form .size ≡ fieldsSize k = ap (λ (g : Fields). g .form .size) (f .ensures) in (
+      z ∙ lawful (partsOf k .mark) .size ∙ ap (λ (g : Fields). 2 + sum (g .form .widths)) (sym (f .ensures)),
       omega (arith, z, length-take (w .readings-behind .result) rs, readings-size w, start .pre .1),
-      ap (λ (g : Form). length (g .widths)) (f .ensures)
-          ∙ ap (λ (q : Parts). length (formOf (q .mark) .widths)) (p .ensures)
-          ∙ sym (of-parts (start .args .call) .count)
-          ∙ ap (λ (q : Parts). length (q .values)) (sym (p .ensures)),
+      ap (λ (g : Fields). length (g .form .widths)) (f .ensures) ∙ sym (of-parts k .count) ∙ ap (λ (g : Fields). length (g .values)) (sym (f .ensures)),
     )
 
 returns : tie.Need-returns
 returns c =
     let w = c .before .before .before .before .before in
-    let f = w .before .form-of in
-    let p = w .before .before .before .parts-of in
+    let f = w .before .before .before .fields-of in
     let start = w .before .before .before .before .before .before in
     let k = start .args .call in
     let rs = now (start .args .readings) in
     written-as (now (start .args .out))
-    (pieces k (p .result) (f .result) rs (take (w .readings-behind .result) rs) (p .ensures) (f .ensures) (ap (λ i. take i rs) (readings-size w)))
+    (pieces k (f .result) rs (take (w .readings-behind .result) rs) (f .ensures) (ap (λ i. take i rs) (readings-size w)))
     (c .before .before .put-parts .ensures)
 
 pub put-record-spec : {M : Type 1} → statement M
 put-record-spec =
     tie.close
     (tie.spec
-    (λ c κs. search needs)
     (λ c κs. search needs)
     readings-behind-requires
     slice-aggregate-put-parts

@@ -1,0 +1,36 @@
+// A field of a record: read from its bytes, and tested.
+ghost use mathlib.Core.Bool.{false};
+ghost use mathlib.Core.Path.{_≡_};
+ghost use Prim.Native.Nat.{_+_, _≤_};
+ghost use lib.ListN.{length};
+ghost use Rattle.basis.specs.Choice.{pick, between};
+ghost use Rattle.basis.specs.Numbers.{numberAt};
+ghost use Rattle.table.specs.Records.{widest};
+
+// The number of `width` bytes of a record's fields from `at` on.
+pub(crate) fn field_at(fields: &[u8], at: usize, width: usize) -> u32
+    requires { ⌜ (width ≤ widest) × (at + width ≤ length (now fields)) ⌝ }
+    ensures { λ r. ⌜ r ≡ numberAt width (now (fields .entry)) at ⌝ }
+{
+    basis::number_at(fields, at, width) as u32
+}
+
+// The number stands from the least to the greatest.
+pub(crate) fn is_between(least: u32, greatest: u32, x: u32) -> bool
+    ensures { λ r. ⌜ r ≡ between least greatest x ⌝ }
+{
+    if x < least {
+        return false;
+    }
+    x <= greatest
+}
+
+// Both tests hold.
+pub(crate) fn both(a: bool, b: bool) -> bool
+    ensures { λ r. ⌜ r ≡ pick a b false ⌝ }
+{
+    if a {
+        return b;
+    }
+    false
+}
