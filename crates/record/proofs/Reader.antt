@@ -38,7 +38,7 @@ module _ (s : List ℕ) (at : ℕ) (m : Mark) (size : ℕ) (size-of : size ≡ f
 
   module _ (h : size ≤ length s - at) where
     -- the part of the journal that holds the fields has their bytes
-    pub fields-size : at < length s → length (take (at + size - (at + 2)) (drop (at + 2) s)) ≡ sum (formOf m .widths)
+    fields-size : at < length s → length (take (at + size - (at + 2)) (drop (at + 2) s)) ≡ sum (formOf m .widths)
     fields-size k =
         let z : size ≡ 2 + sum (formOf m .widths) = size-of ∙ lawful m .size in
         length-take-le (at + size - (at + 2)) (drop (at + 2) s) (omega (arith, length-drop (at + 2) s)) ∙ omega arith

@@ -100,19 +100,19 @@ in-range c rs e =
     let h = handed-on (fieldsNumber c) (pick (restInRange c rs) 0 3) e in
     (peel-not (fieldsInRange c) 2 0 (h .0) .0, peel-not (restInRange c rs) 2 0 (h .1) .0)
 
--- what the fields of a call tell of its ranges
-told : (c : Call) {f : Fields} → f ≡ fieldsOf c → f .«in_range» ≡ fieldsInRange c
+-- whether the fields of a call are in range
+in-range-is : (c : Call) {f : Fields} → f ≡ fieldsOf c → f .«in_range» ≡ fieldsInRange c
 unfolding fieldsOf
-told c e = ap (λ (g : Fields). g .«in_range») e
+in-range-is c e = ap (λ (g : Fields). g .«in_range») e
 
 -- the number of the single fields, and that of the call
 pub fields-in : (c : Call) {f : Fields} → f ≡ fieldsOf c → f .«in_range» ≡ true → 0 ≡ fieldsNumber c
 unfolding fieldsNumber
-fields-in c e t = simp (sym (told c e) ∙ t)
+fields-in c e t = simp (sym (in-range-is c e) ∙ t)
 
 pub fields-out : (c : Call) {f : Fields} → f ≡ fieldsOf c → f .«in_range» ≡ false → 3 ≡ fieldsNumber c
 unfolding fieldsNumber
-fields-out c e t = simp (sym (told c e) ∙ t)
+fields-out c e t = simp (sym (in-range-is c e) ∙ t)
 
 pub number-in : (c : Call) (rs : List ℕ) {f : Fields} → f ≡ fieldsOf c → f .«in_range» ≡ true → restInRange c rs ≡ true → 0 ≡ callNumber c rs
 unfolding callNumber

@@ -1,7 +1,5 @@
 // The calls by what they concern, the record of each, and the fields of any.
 ghost use mathlib.Core.Path.{_≡_};
-ghost use lib.ListN.{length};
-ghost use Rattle.basis.specs.Sums.{sum};
 ghost use Rattle.table.specs.Fields.{decode};
 ghost use Rattle.table.specs.Records.{bookMarks, findMark, markAt, formOf, callOf};
 ghost use Rattle.table.specs.Ranges.{fieldsOf};
@@ -118,9 +116,8 @@ pub fn mark_at(number: u32) -> Found
     }
 }
 
-// The call of a record whose fields are these bytes.
+// The call of a record whose fields are these bytes; those that are not there count as 0.
 pub fn call_of(mark: Mark, fields: &[u8]) -> Call
-    requires { ⌜ length (now fields) ≡ sum (formOf mark .widths) ⌝ }
     ensures { λ r. ⌜ r ≡ callOf mark (decode (formOf mark .widths) (now (fields .entry))) ⌝ }
 {
     match mark {

@@ -1,8 +1,6 @@
 // The records of a consumer: their marks, their calls, and the fields of each.
 ghost use mathlib.Core.List.{[]};
 ghost use mathlib.Core.Path.{_≡_};
-ghost use lib.ListN.{length};
-ghost use Rattle.basis.specs.Sums.{sum};
 ghost use Rattle.table.specs.Fields.{decode};
 ghost use Rattle.table.specs.Records.{consumerMarks, findMark, formOf, callOf};
 ghost use Rattle.table.specs.Ranges.{fieldsOf, callNumber};
@@ -61,9 +59,8 @@ pub(crate) fn consumer_mark_at(number: u32) -> Found
     }
 }
 
-// The call of a consumer's record whose fields are these bytes.
+// The call of a consumer's record whose fields are these bytes; those that are not there count as 0.
 pub(crate) fn consumer_call(mark: ConsumerMark, fields: &[u8]) -> Call
-    requires { ⌜ length (now fields) ≡ sum (formOf (marked.Consumer mark) .widths) ⌝ }
     ensures { λ r. ⌜ r ≡ callOf (marked.Consumer mark) (decode (formOf (marked.Consumer mark) .widths) (now (fields .entry))) ⌝ }
 {
     match mark {

@@ -1,8 +1,6 @@
 // The records of a contract between a producer and a consumer: their marks, their calls, and the fields of each.
 ghost use mathlib.Core.List.{[]};
 ghost use mathlib.Core.Path.{_≡_};
-ghost use lib.ListN.{length};
-ghost use Rattle.basis.specs.Sums.{sum};
 ghost use Rattle.table.specs.Fields.{decode};
 ghost use Rattle.table.specs.Records.{contractMarks, findMark, formOf, callOf};
 ghost use Rattle.table.specs.Ranges.{fieldsOf, callNumber};
@@ -61,9 +59,8 @@ pub(crate) fn contract_mark_at(number: u32) -> Found
     }
 }
 
-// The call of a contract's record whose fields are these bytes.
+// The call of a contract's record whose fields are these bytes; those that are not there count as 0.
 pub(crate) fn contract_call(mark: ContractMark, fields: &[u8]) -> Call
-    requires { ⌜ length (now fields) ≡ sum (formOf (marked.Contract mark) .widths) ⌝ }
     ensures { λ r. ⌜ r ≡ callOf (marked.Contract mark) (decode (formOf (marked.Contract mark) .widths) (now (fields .entry))) ⌝ }
 {
     match mark {

@@ -1,7 +1,5 @@
 // The records of a unit: their marks, their calls, and the fields of each.
 ghost use mathlib.Core.Path.{_≡_};
-ghost use lib.ListN.{length};
-ghost use Rattle.basis.specs.Sums.{sum};
 ghost use Rattle.table.specs.Fields.{decode};
 ghost use Rattle.table.specs.Records.{unitMarks, findMark, formOf, callOf};
 ghost use Rattle.table.specs.Ranges.{unitInRange, fieldsOf, fieldsNumber};
@@ -107,9 +105,8 @@ pub(crate) fn unit_mark_at(number: u32) -> Found
     }
 }
 
-// The call of a unit's record whose fields are these bytes.
+// The call of a unit's record whose fields are these bytes; those that are not there count as 0.
 pub(crate) fn unit_call(mark: UnitMark, fields: &[u8]) -> Call
-    requires { ⌜ length (now fields) ≡ sum (formOf (marked.Unit mark) .widths) ⌝ }
     ensures { λ r. ⌜ r ≡ callOf (marked.Unit mark) (decode (formOf (marked.Unit mark) .widths) (now (fields .entry))) ⌝ }
 {
     match mark {

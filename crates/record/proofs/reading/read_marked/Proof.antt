@@ -13,7 +13,7 @@ use Rattle.table.specs.Records.{callOf, formOf, countPlace, readingsSize}
 use Rattle.table.specs.Fields.{decode}
 use Rattle.table.specs.declared.forms.Mark.{Mark}
 use Rattle.table.proofs.Table.{lawful, narrow-reading, readings-none, count-within, readings-read}
-use Rattle.record.proofs.Reader.{cut-fields, fields-size, fields-call, cut-readings, whole-record, fields-alone}
+use Rattle.record.proofs.Reader.{cut-fields, fields-call, cut-readings, whole-record, fields-alone}
 use Rattle.record.proofs.reading.read_marked.Statement.{statement}
 use Rattle.record.proofs.reading.read_marked.Tie as tie
 
@@ -41,11 +41,6 @@ sub-call-of c = omega (arith, marked (c .before .before))
 
 part-call-of-start : tie.Need-part-call-of-start
 part-call-of-start c = omega (arith, marked (c .before .before))
-
-call-of-requires : tie.Need-call-of-requires
-call-of-requires c κs =
-    let w = c .before .before .before in
-    fields-size (journal w) (place w) (mark w) (w .args .size) (w .pre .1) (c .before .if1 .left) (w .pre .0)
 
 -- the call is that of the fields in the journal
 abbrev start : tie.After-call-of → tie.Start
@@ -114,7 +109,7 @@ read-marked-spec =
     sub-call-of
     part-call-of-start
     (λ c. search needs)
-    call-of-requires
+    (λ c κs. search needs)
     returns-2
     (λ c. search needs)
     readings-at-requires

@@ -1,19 +1,11 @@
 -- `table::consumers::consumer_call` meets its contract: each arm by the definition's own clause, each field by its place and width.
 -- Assumes nothing.
-use mathlib.Core.Path.{_≡_, ap}
-use native.Mathlib.Omega.{arith}
 use borrow.Author.Needs.{needs}
 use Rattle.basis.specs.Sums.{sum}
 use Rattle.table.specs.Records.{tableOf, formOf, callOf}
-use Rattle.table.specs.declared.forms.Mark.the-variants.{Consumer}
-use Rattle.table.specs.declared.consumers.ConsumerMark.{ConsumerMark}
 use Rattle.table.proofs.Codec.{decode-at}
 use Rattle.table.proofs.consumers.consumer_call.Statement.{statement}
 use Rattle.table.proofs.consumers.consumer_call.Tie as tie
-
--- the fields of a record have the bytes of its form
-same-size : (m k : ConsumerMark) → m ≡ k → sum (formOf (Consumer m) .widths) ≡ sum (formOf (Consumer k) .widths)
-same-size m k e = ap (λ (n : ConsumerMark). sum (formOf (Consumer n) .widths)) e
 
 returns : tie.Need-returns
 unfolding tableOf formOf callOf sum
@@ -35,16 +27,15 @@ returns-2 c = simp (
 )
 
 pub consumer-call-spec : {M : Type 1} → statement M
-unfolding tableOf formOf sum
 consumer-call-spec =
     tie.close
     (tie.spec
     (λ c. search needs)
-    (λ c κs. omega (arith, same-size))
-    (λ c κs. omega (arith, same-size))
-    (λ c κs. omega (arith, same-size))
+    (λ c κs. search needs)
+    (λ c κs. search needs)
+    (λ c κs. search needs)
     (λ c. search needs)
-    (λ c κs. omega (arith, same-size))
-    (λ c κs. omega (arith, same-size))
+    (λ c κs. search needs)
+    (λ c κs. search needs)
     returns
     returns-2)

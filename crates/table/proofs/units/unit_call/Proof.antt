@@ -1,19 +1,11 @@
 -- `table::units::unit_call` meets its contract: each arm by the definition's own clause, each field by its place and width.
 -- Assumes nothing.
-use mathlib.Core.Path.{_≡_, ap}
-use native.Mathlib.Omega.{arith}
 use borrow.Author.Needs.{needs}
 use Rattle.basis.specs.Sums.{sum}
 use Rattle.table.specs.Records.{tableOf, formOf, callOf}
-use Rattle.table.specs.declared.forms.Mark.the-variants.{Unit}
-use Rattle.table.specs.declared.units.UnitMark.{UnitMark}
 use Rattle.table.proofs.Codec.{decode-at}
 use Rattle.table.proofs.units.unit_call.Statement.{statement}
 use Rattle.table.proofs.units.unit_call.Tie as tie
-
--- the fields of a record have the bytes of its form
-same-size : (m k : UnitMark) → m ≡ k → sum (formOf (Unit m) .widths) ≡ sum (formOf (Unit k) .widths)
-same-size m k e = ap (λ (n : UnitMark). sum (formOf (Unit n) .widths)) e
 
 returns : tie.Need-returns
 unfolding tableOf formOf callOf sum
@@ -57,33 +49,32 @@ returns-3 c = simp (
 )
 
 pub unit-call-spec : {M : Type 1} → statement M
-unfolding tableOf formOf sum
 unit-call-spec =
     tie.close
     (tie.spec
     (λ c. search needs)
-    (λ c κs. omega (arith, same-size))
-    (λ c κs. omega (arith, same-size))
-    (λ c κs. omega (arith, same-size))
-    (λ c κs. omega (arith, same-size))
-    (λ c κs. omega (arith, same-size))
-    (λ c κs. omega (arith, same-size))
-    (λ c κs. omega (arith, same-size))
-    (λ c κs. omega (arith, same-size))
-    (λ c κs. omega (arith, same-size))
+    (λ c κs. search needs)
+    (λ c κs. search needs)
+    (λ c κs. search needs)
+    (λ c κs. search needs)
+    (λ c κs. search needs)
+    (λ c κs. search needs)
+    (λ c κs. search needs)
+    (λ c κs. search needs)
+    (λ c κs. search needs)
     (λ c. search needs)
-    (λ c κs. omega (arith, same-size))
-    (λ c κs. omega (arith, same-size))
-    (λ c κs. omega (arith, same-size))
-    (λ c κs. omega (arith, same-size))
-    (λ c κs. omega (arith, same-size))
+    (λ c κs. search needs)
+    (λ c κs. search needs)
+    (λ c κs. search needs)
+    (λ c κs. search needs)
+    (λ c κs. search needs)
     (λ c. search needs)
-    (λ c κs. omega (arith, same-size))
-    (λ c κs. omega (arith, same-size))
-    (λ c κs. omega (arith, same-size))
-    (λ c κs. omega (arith, same-size))
-    (λ c κs. omega (arith, same-size))
-    (λ c κs. omega (arith, same-size))
+    (λ c κs. search needs)
+    (λ c κs. search needs)
+    (λ c κs. search needs)
+    (λ c κs. search needs)
+    (λ c κs. search needs)
+    (λ c κs. search needs)
     returns
     returns-2
     returns-3)
