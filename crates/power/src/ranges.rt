@@ -2,7 +2,9 @@
 ghost use mathlib.Core.Bool.{true};
 ghost use mathlib.Core.Path.{_≡_};
 ghost use Prim.Native.Nat.{_*_, _≤_};
+ghost use lib.Dec.{leb};
 ghost use lib.ListN.{length};
+ghost use Rattle.basis.specs.Choice.{pick};
 ghost use Rattle.basis.specs.Sums.{allAtMost};
 ghost use Rattle.quantities.specs.Limits.{greatestReading};
 ghost use Rattle.power.specs.Ranges.{readingsOf, testInRange, minutesInRange};
@@ -13,19 +15,29 @@ use quantities::GREATEST_READING;
 use quantities::GREATEST_TIME;
 use quantities::LEAST_TIME;
 
-// Each of so many readings of four bytes is at most 750,000 kWh.
+// 1 where a reading is above 750,000 kWh, else 0.
+fn above(reading: u64) -> u64
+    ensures { λ r. ⌜ r ≡ pick (leb reading greatestReading) 0 1 ⌝ }
+{
+    if GREATEST_READING < reading {
+        return 1;
+    }
+    0
+}
+
+// Each of so many readings of four bytes is at most 750,000 kWh: none is above. All are looked at, which takes less time than to end at the
+// first.
 fn readings_in_range(readings: &[u8], count: usize) -> bool
     requires { ⌜ 4 * count ≤ length (now readings) ⌝ }
     ensures { λ r. ⌜ r ≡ allAtMost greatestReading (readingsOf count (now (readings .entry))) ⌝ }
 {
+    let mut excess: u64 = 0;
     let mut i = 0;
     while i < count {
-        if GREATEST_READING < basis::number_at(readings, 4 * i, 4) {
-            return false;
-        }
+        excess += above(basis::number_at(readings, 4 * i, 4));
         i += 1;
     }
-    true
+    excess == 0
 }
 
 // A test's ending, TC, count, lent length and readings are in range.

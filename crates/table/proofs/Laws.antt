@@ -1,5 +1,5 @@
 -- What holds of each record of the table and of each call, and what a call in range shows of a field.
-use mathlib.Core.Path.{_≡_, refl, sym, ap, _∙_}
+use mathlib.Core.Path.{_≡_, sym, ap, _∙_}
 use mathlib.Core.Bool.{Bool, true, false}
 use mathlib.Core.List.{List, [], _∷_}
 use Prim.Native.Nat.{ℕ, zero, suc, _+_, _*_, _≤_, _<_}
@@ -87,11 +87,6 @@ pub record OfParts (c : Call) : Type 0 where
   pub again : fieldsInRange c ≡ true → callOf (partsOf c .mark) (partsOf c .values) ≡ c
   pub count : length (partsOf c .values) ≡ length (formOf (partsOf c .mark) .widths)
   pub lent : (rs : List ℕ) → restInRange c rs ≡ true → readingsSize c ≤ length rs
-
--- a test with nothing behind it
-pub alone : (t : Bool) → pick t true false ≡ t
-alone true = refl
-alone false = refl
 
 -- a call in range passed both tests
 pub in-range : (c : Call) (rs : List ℕ) → callNumber c rs ≡ 0 → (fieldsInRange c ≡ true) × (restInRange c rs ≡ true)

@@ -1,11 +1,17 @@
--- `power::ranges::readings_in_range` meets its contract. The invariant: the readings still to come decide. Assumes nothing.
+-- `power::ranges::readings_in_range` meets its contract. The invariant: if none was above the greatest yet, the readings still to come decide.
+-- Assumes nothing.
 use mathlib.Core.Path.{_≡_, refl, sym, ap, _∙_}
-use Prim.Native.Nat.{_-_, _≤_}
+use mathlib.Core.Bool.{Bool, true, false}
+use Prim.Native.Nat.{ℕ, _+_, _-_, _≤_}
 use native.Mathlib.Omega.{arith}
-use borrow.Author.Tests.{le-leb, lt-leb}
+use borrow.Author.Needs.{needs}
+use borrow.Author.Tests.{ne-eqb}
 use denote.Ref.{now}
+use lib.Dec.{leb, eqb}
 use lib.ListN.{drop}
+use Rattle.basis.specs.Choice.{pick}
 use Rattle.basis.specs.Sums.{allAtMost}
+use Rattle.basis.proofs.Choice.{pick-same, alone}
 use Rattle.quantities.specs.Limits.{greatestReading}
 use Rattle.power.specs.Ranges.{readingsOf}
 use Rattle.power.proofs.Readings.{readings-from, readings-end}
@@ -13,47 +19,45 @@ use Rattle.power.proofs.ranges.readings_in_range.Statement.{statement}
 use Rattle.power.proofs.ranges.readings_in_range.Tie as tie
 
 abbrev Inv-loop : tie.InvT-loop
-Inv-loop readings count i₀ i =
-    (i ≤ count) × (allAtMost greatestReading (readingsOf count readings) ≡ allAtMost greatestReading (drop i (readingsOf count readings)))
+Inv-loop readings count excess₀ i₀ excess i =
+    (i ≤ count)
+    × (excess ≤ i)
+    × (allAtMost greatestReading (readingsOf count readings) ≡ pick (eqb excess 0) (allAtMost greatestReading (drop i (readingsOf count readings))) false)
 
 abbrev μ-loop : tie.MeasureT-loop
-μ-loop readings count i₀ i = count - i
+μ-loop readings count excess₀ i₀ excess i = count - i
 
-loop-holds : tie.Need-loop-holds Inv-loop μ-loop
-loop-holds c = (omega arith, refl)
+-- one reading more, above the greatest or not
+one-more : (excess : ℕ) (t rest : Bool) → pick (eqb excess 0) (pick t rest false) false ≡ pick (eqb (excess + pick t 0 1) 0) rest false
+one-more excess true rest = let e : excess ≡ excess + 0 = omega arith in ap (λ n. pick (eqb n 0) rest false) e
+one-more excess false rest =
+    pick-same (eqb excess 0) false ∙ sym (ap (λ t. pick t rest false) (ne-eqb (excess + 1) 0 (λ q. absurd (omega arith))))
 
-mul-number-at : tie.Need-mul-number-at Inv-loop μ-loop
-mul-number-at c = omega arith
-
-number-at-requires : tie.Need-number-at-requires Inv-loop μ-loop
-number-at-requires c κs = omega arith
-
-returns : tie.Need-returns Inv-loop μ-loop
-unfolding allAtMost
-returns c =
-    let a = c .before .before .before .before .before .args in
-    let l = c .before .before .before .loop in
-    sym (l .inv .1 ∙ rw (readings-from (a .count) (l .i) (now (a .readings)) (c .before .before .loop-test .taken)) (simp (← c .before .number-at .ensures, lt-leb _ _ (c .if1 .taken))))
-
-add-i : tie.Need-add-i Inv-loop μ-loop
-add-i c = omega arith
-
-loop-less : tie.Need-loop-less Inv-loop μ-loop
-loop-less c = omega arith
+-- 0 or 1
+small : (t : Bool) → pick t 0 1 ≤ 1
+small true = omega arith
+small false = omega arith
 
 loop-again : tie.Need-loop-again Inv-loop μ-loop
 unfolding allAtMost
 loop-again c =
-    let a = c .before .before .before .before .before .args in
-    let l = c .before .before .before .loop in
-    (omega arith, l .inv .1 ∙ rw (readings-from (a .count) (l .i) (now (a .readings)) (c .before .before .loop-test .taken)) (simp (← c .before .number-at .ensures, le-leb _ _ (c .if1 .left))))
+    let w = c .before .before in
+    let a = w .before .before .before .args in
+    let l = w .before .loop in
+    let s = now (a .readings) in
+    let x = c .before .number-at in
+    let b : c .above .result ≡ pick (leb (x .result) greatestReading) 0 1 = c .above .ensures in
+    (omega arith, omega (arith, b, small (leb (x .result) greatestReading)), l .inv .2 ∙ rw (readings-from (a .count) (l .i) s (w .loop-test .taken)) (simp (← x .ensures, b, one-more)))
 
-returns-2 : tie.Need-returns-2 Inv-loop μ-loop
+returns : tie.Need-returns Inv-loop μ-loop
 unfolding allAtMost
-returns-2 c =
+returns c =
     let a = c .before .before .before .args in
     let l = c .before .loop in
-    sym (l .inv .1 ∙ ap (allAtMost greatestReading) (readings-end (a .count) (l .i) (now (a .readings)) (c .loop-test .left)))
+    sym
+    (l .inv .2
+    ∙ ap (λ r. pick (eqb (l .excess) 0) (allAtMost greatestReading r) false) (readings-end (a .count) (l .i) (now (a .readings)) (c .loop-test .left))
+    ∙ alone (eqb (l .excess) 0))
 
 pub readings-in-range-spec : {M : Type 1} → statement M
 readings-in-range-spec =
@@ -61,11 +65,12 @@ readings-in-range-spec =
     (tie.spec
     Inv-loop
     μ-loop
-    loop-holds
-    mul-number-at
-    number-at-requires
-    returns
-    add-i
-    loop-less
+    (λ c. (omega arith, omega arith, refl))
+    (λ c. omega arith)
+    (λ c κs. omega arith)
+    (λ c κs. search needs)
+    (λ c. omega (arith, c .above .ensures, small (leb (c .before .number-at .result) greatestReading)))
+    (λ c. omega arith)
+    (λ c. omega arith)
     loop-again
-    returns-2)
+    returns)

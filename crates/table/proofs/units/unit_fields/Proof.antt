@@ -2,10 +2,10 @@
 -- Assumes nothing.
 use borrow.Author.Needs.{needs}
 use Rattle.basis.specs.Sums.{sum}
+use Rattle.basis.proofs.Choice.{alone}
 use Rattle.table.specs.Fields.{withinAll}
 use Rattle.table.specs.Ranges.{fieldsOf}
 use Rattle.table.specs.Records.{tableOf, formOf, partsOf}
-use Rattle.table.proofs.Laws.{alone}
 use Rattle.table.proofs.units.unit_fields.Statement.{statement}
 use Rattle.table.proofs.units.unit_fields.Tie as tie
 
