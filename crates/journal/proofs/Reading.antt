@@ -1,84 +1,37 @@
 -- What a record that was read says of the journal, and that what stands behind it does not matter.
-use mathlib.Core.Path.{_≡_, refl, sym, ap, _∙_}
+use mathlib.Core.Path.{_≡_, refl, sym}
 use mathlib.Core.Bool.{Bool, true, false}
 use mathlib.Core.List.{List, _++_}
 use Prim.Native.Nat.{ℕ, _+_, _-_, _≤_, _<_}
 use native.Mathlib.Omega.{arith}
 use borrow.Author.Tests.{leb-true}
 use lib.Dec.{leb, ltb}
-use lib.ListN.{length, take, drop, length-append, length-drop}
-use lib.Seq.{take-append-le, drop-append-le}
+use lib.ListN.{length}
 use Rattle.basis.specs.Choice.{pick}
-use Rattle.basis.specs.Numbers.{number, numberAt}
-use Rattle.table.specs.Records.{callOf, formOf, markAt}
-use Rattle.table.specs.Fields.{decode}
-use Rattle.record.specs.Reading.{readCall, readMarked, readFound, readAt, partOf}
+use Rattle.basis.specs.Numbers.{numberAt}
+use Rattle.table.specs.Records.{formOf, markAt}
 use Rattle.table.specs.declared.calls.Call.{Call}
 use Rattle.table.specs.declared.forms.Found.{Found}
 use Rattle.table.specs.declared.forms.Found.the-variants.{Nothing, One}
-use Rattle.table.specs.declared.forms.Mark.{Mark}
+use Rattle.record.specs.Reading.{readCall, readMarked, readFound, readAt, partOf}
 use Rattle.record.specs.declared.reading.Read.{Read}
 use Rattle.record.specs.declared.reading.Read.the-variants.{End, Cut, Unknown, Record}
-use Rattle.table.proofs.Codec.{decode-append}
-use Rattle.record.proofs.Reader.{part-of}
-use Rattle.record.proofs.Shows.{Shows, read-shows, shows-read}
-use Rattle.table.proofs.Table.{lawful}
+use Rattle.record.proofs.RoundTrip.{read-is-placed, read-is-alone}
 
 module _ (s : List ℕ) (at : ℕ) {from next : ℕ} {c : Call} (e : readAt s at ≡ Record c from next) where
-  shows : Shows s at c from next
-  shows = read-shows s at c from next e
-
   -- the next record stands behind this one, in the journal or at its end
   pub next-above : at < next
-  next-above = let w = shows in omega (arith, lawful (w .mark) .size)
+  next-above = read-is-placed s at c from next e .beyond
 
   pub next-within : next ≤ length s
-  next-within = shows .there
-
-  -- the readings stand before the next record
-  pub readings-within : from ≤ next
-  readings-within = let w = shows in omega arith
+  next-within = read-is-placed s at c from next e .within
 
   -- with more behind the journal, the same record is read, with the same readings
-  module _ (more : List ℕ) where
-    same-number : at + 2 ≤ length s → numberAt 2 (s ++ more) at ≡ numberAt 2 s at
-    same-number h =
-        let k : at ≤ length s = omega arith in
-        let l : 2 ≤ length (drop at s) = omega (arith, length-drop at s) in
-        ap (λ (l : List ℕ). number (take 2 l)) (drop-append-le at s more k) ∙ ap number (take-append-le 2 (drop at s) more l)
+  pub read-more : (more : List ℕ) → readAt (s ++ more) at ≡ Record c from next
+  read-more more = read-is-alone s at c from next more e .longer
 
-    same-fields : (m : Mark) → at + formOf m .size ≤ length s → decode (formOf m .widths) (drop (at + 2) (s ++ more)) ≡ decode (formOf m .widths) (drop (at + 2) s)
-    same-fields m h =
-        let z = lawful m .size in
-        let k : at + 2 ≤ length s = omega arith in
-        ap (decode (formOf m .widths)) (drop-append-le (at + 2) s more k)
-        ∙ decode-append (formOf m .widths) (drop (at + 2) s) more (omega (arith, length-drop (at + 2) s))
-
-    pub read-more : readAt (s ++ more) at ≡ Record c from next
-    read-more =
-        let w = shows in
-        let z = lawful (w .mark) .size in
-        let h : at + formOf (w .mark) .size ≤ length s = omega arith in
-        shows-read (s ++ more) at c from next
-        (record {
-          mark = w .mark;
-          found = ap markAt (same-number (omega arith)) ∙ w .found;
-          call = w .call ∙ ap (callOf (w .mark)) (sym (same-fields (w .mark) h));
-          start = w .start;
-          behind = w .behind;
-          there = omega (arith, length-append s more);
-        })
-
-    pub part-more : partOf (s ++ more) from next ≡ partOf s from next
-    part-more =
-        let n : from ≤ next = readings-within in
-        let k : next ≤ length s = next-within in
-        let f : from ≤ length s = omega arith in
-        let d : next - from ≤ length (drop from s) = omega (arith, length-drop from s) in
-        sym (part-of (s ++ more) from next n (omega (arith, length-append s more)))
-        ∙ ap (take (next - from)) (drop-append-le from s more f)
-        ∙ take-append-le (next - from) (drop from s) more d
-        ∙ part-of s from next n k
+  pub part-more : (more : List ℕ) → partOf (s ++ more) from next ≡ partOf s from next
+  part-more more = read-is-alone s at c from next more e .longer-readings
 
 pub at-end : (s : List ℕ) (at : ℕ) → length s ≤ at → readAt s at ≡ End
 at-end s at h = sym (Rattle.record.proofs.Reader.at-end s at h)
