@@ -2,13 +2,13 @@
 ghost use mathlib.Core.Path.{_≡_};
 ghost use Rattle.book.specs.Year.{begun, yearNumberBy, yearOf};
 use plant::Hours;
+use ranges::call_number;
 use state::BLANK;
 use state::Book;
 use state::Reply;
 use state::Stage;
 use state::stage_number;
 use table::Call;
-use table::call_number;
 
 // The book of a year that begins.
 fn begin(book: Book, hours: Hours) -> Book

@@ -18,7 +18,7 @@ use table::ContractCall;
 use table::UnitCall;
 
 // A call of a unit.
-pub(crate) fn of_unit(book: Book, unit: u32, act: UnitCall, readings: &[u8]) -> Reply
+pub(crate) fn of_unit(mut book: Book, unit: u32, act: UnitCall, readings: &[u8]) -> Reply
     ensures { λ r. ⌜ r ≡ unitOf book unit act (now (readings .entry)) ⌝ }
 {
     let place = unit_place(unit);
@@ -28,18 +28,14 @@ pub(crate) fn of_unit(book: Book, unit: u32, act: UnitCall, readings: &[u8]) -> 
     match answer {
         UnitAnswer::Refused(number) => Reply { number, book },
         UnitAnswer::Stored(after) => {
-            let mut next = book;
-            next.units[place] = after;
-            Reply {
-                number: 0,
-                book: next,
-            }
+            book.units[place] = after;
+            Reply { number: 0, book }
         }
     }
 }
 
 // A call of a consumer.
-pub(crate) fn of_consumer(book: Book, consumer: u32, act: ConsumerCall) -> Reply
+pub(crate) fn of_consumer(mut book: Book, consumer: u32, act: ConsumerCall) -> Reply
     ensures { λ r. ⌜ r ≡ consumerOf book consumer act ⌝ }
 {
     let place = consumer_place(consumer);
@@ -49,18 +45,14 @@ pub(crate) fn of_consumer(book: Book, consumer: u32, act: ConsumerCall) -> Reply
     match answer {
         ConsumerAnswer::Refused(number) => Reply { number, book },
         ConsumerAnswer::Stored(after) => {
-            let mut next = book;
-            next.consumers[place] = after;
-            Reply {
-                number: 0,
-                book: next,
-            }
+            book.consumers[place] = after;
+            Reply { number: 0, book }
         }
     }
 }
 
 // A call of a contract.
-pub(crate) fn of_contract(book: Book, producer: u32, consumer: u32, act: ContractCall) -> Reply
+pub(crate) fn of_contract(mut book: Book, producer: u32, consumer: u32, act: ContractCall) -> Reply
     ensures { λ r. ⌜ r ≡ contractOf book producer consumer act ⌝ }
 {
     let place = consumer_place(consumer);
@@ -79,12 +71,8 @@ pub(crate) fn of_contract(book: Book, producer: u32, consumer: u32, act: Contrac
     match answer {
         BalanceAnswer::Refused(number) => Reply { number, book },
         BalanceAnswer::Stored { cell, balance } => {
-            let mut next = book;
-            next.balances[cell] = balance;
-            Reply {
-                number: 0,
-                book: next,
-            }
+            book.balances[cell] = balance;
+            Reply { number: 0, book }
         }
     }
 }

@@ -13,6 +13,7 @@ use crate::money::charges;
 use crate::money::surpluses;
 use crate::money::total_of;
 use quantities::CONSUMERS;
+use ranges::call_number;
 use state::Book;
 use state::CloseFigures;
 use state::Consumer;
@@ -21,7 +22,6 @@ use state::Reply;
 use state::Stage;
 use state::stage_number;
 use table::Call;
-use table::call_number;
 
 // The figures of a close at P, once no DFA is above the greatest.
 fn figures(p: u32, dmp: u32, consumers: [Consumer; CONSUMERS]) -> CloseFigures

@@ -9,6 +9,7 @@ use crate::offers::efficient;
 use crate::offers::limits;
 use crate::offers::offers;
 use quantities::CONSUMERS;
+use ranges::call_number;
 use state::Book;
 use state::Consumer;
 use state::GATHERING;
@@ -16,7 +17,6 @@ use state::Reply;
 use state::Stage;
 use state::stage_number;
 use table::Call;
-use table::call_number;
 
 // The book of the firm year, once DMP is divided.
 fn fixed(book: Book, dmp: u32, demands: [u32; CONSUMERS]) -> Book

@@ -8,13 +8,13 @@ ghost use Rattle.gathering.specs.Units.{unitAnswerOf};
 use crate::components::availability_answer;
 use crate::components::test_answer;
 use crate::enrolment::enrolment_answer;
+use ranges::call_number;
 use state::GATHERING;
 use state::Stage;
 use state::Unit;
 use state::stage_number;
 use table::Call;
 use table::UnitCall;
-use table::call_number;
 use table::unit_number;
 
 // A refusal with its number, or the unit that is to be stored.

@@ -2,7 +2,9 @@
 ghost use mathlib.Core.Bool.{true};
 ghost use mathlib.Core.Path.{_≡_};
 ghost use Prim.Native.Nat.{_*_, _≤_};
+ghost use lib.Dec.{eqb};
 ghost use lib.ListN.{length};
+ghost use Rattle.basis.specs.Choice.{pick};
 ghost use Rattle.basis.specs.Sums.{allAtMost};
 ghost use Rattle.quantities.specs.Limits.{greatestReading, greatestCount, leastTime};
 ghost use Rattle.power.specs.Ranges.{readingsOf};
@@ -118,6 +120,16 @@ fn capped(cap: Cap, power: Kw) -> Kw
     }
 }
 
+// Whether a void trip is remembered after a void test, from whether one was before.
+fn remembered(ending: u32, before: bool) -> bool
+    ensures { λ r. ⌜ r ≡ pick (eqb ending 2) true before ⌝ }
+{
+    if ending == 2 {
+        return true;
+    }
+    before
+}
+
 // A component after an accepted test.
 fn after_test(cap: Cap, ending: u32, old: Component, measured: Measured) -> Component
     ensures { λ r. ⌜ r ≡ afterTest cap ending old measured ⌝ }
@@ -125,16 +137,11 @@ fn after_test(cap: Cap, ending: u32, old: Component, measured: Measured) -> Comp
     let availability = old.availability;
     let result = old.result;
     match measured {
-        Measured::Nothing => {
-            if ending == 2 {
-                return Component {
-                    result,
-                    void_trip: true,
-                    availability,
-                };
-            }
-            old
-        }
+        Measured::Nothing => Component {
+            result,
+            void_trip: remembered(ending, old.void_trip),
+            availability,
+        },
         Measured::Power(p) => Component {
             result: Measured::Power(capped(cap, p)),
             void_trip: false,

@@ -4,6 +4,7 @@ mod sizes; // sizes.rt: the bytes of a record
 mod reading; // reading.rt: the reader
 mod writing; // writing.rt: the writer
 
+pub use ranges::call_number;
 pub use reading::Read;
 pub use reading::read_at;
 pub use reading::readings_of;
@@ -13,5 +14,4 @@ pub use table::Call;
 pub use table::ConsumerCall;
 pub use table::ContractCall;
 pub use table::UnitCall;
-pub use table::call_number;
 pub use writing::write;

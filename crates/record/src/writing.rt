@@ -13,10 +13,10 @@ use crate::fields::put_bytes;
 use crate::fields::put_fields;
 use crate::sizes::readings_behind;
 use crate::sizes::record_size;
+use ranges::call_number;
 use table::Call;
 use table::FIELDS;
 use table::Form;
-use table::call_number;
 use table::fields_of;
 
 // A mark, values in their widths and the bytes of readings, over what stands at the start of out.

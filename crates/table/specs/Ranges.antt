@@ -13,7 +13,7 @@ use Rattle.table.specs.declared.calls.Call.the-variants.{Year, Fix, Clos
 use Rattle.table.specs.declared.units.UnitCall.{UnitCall}
 use Rattle.table.specs.declared.units.UnitCall.the-variants.{Enrol, Test, Availability}
 use Rattle.table.specs.declared.forms.Fields.{Fields}
-use Rattle.table.specs.declared.unused.Uses.{Uses}
+use Rattle.table.specs.declared.forms.Uses.{Uses}
 
 -- flag 16 serves kinds 1 and 2, PPR kind 2, E1 kinds 3 to 8, E2 and CAP kind 8
 unfoldable pub usesOf : ℕ → Uses

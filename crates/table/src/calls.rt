@@ -3,6 +3,7 @@ ghost use mathlib.Core.Path.{_≡_};
 ghost use Rattle.table.specs.Fields.{decode};
 ghost use Rattle.table.specs.Records.{bookMarks, findMark, markAt, formOf, callOf};
 ghost use Rattle.table.specs.Ranges.{fieldsOf};
+ghost use Rattle.table.specs.declared.calls.Call.the-variants.{Year, Fix, Close};
 use crate::consumers::ConsumerCall;
 use crate::consumers::consumer_call;
 use crate::consumers::consumer_fields;
@@ -138,47 +139,68 @@ pub fn call_of(mark: Mark, fields: &[u8]) -> Call
     }
 }
 
+// The fields of a year.
+fn year_fields(nhrm: u32, nhmd: u32, ndhmd: u32) -> Fields
+    ensures { λ r. ⌜ r ≡ fieldsOf (Year nhrm nhmd ndhmd) ⌝ }
+{
+    Fields {
+        form: Form {
+            mark: YEAR,
+            size: YEAR_SIZE,
+            widths: [2, 2, 1, 0, 0, 0, 0, 0, 0],
+            reading_width: 0,
+        },
+        values: [nhrm, nhmd, ndhmd, 0, 0, 0, 0, 0, 0],
+        in_range: both(
+            is_between(1, GREATEST_HOURS, nhrm),
+            both(
+                is_between(1, GREATEST_HOURS, nhmd),
+                is_between(1, GREATEST_DAY_HOURS, ndhmd),
+            ),
+        ),
+    }
+}
+
+// The fields of a fix.
+fn fix_fields(dmp: u32) -> Fields
+    ensures { λ r. ⌜ r ≡ fieldsOf (Fix dmp) ⌝ }
+{
+    Fields {
+        form: Form {
+            mark: FIX,
+            size: FIX_SIZE,
+            widths: [4, 0, 0, 0, 0, 0, 0, 0, 0],
+            reading_width: 0,
+        },
+        values: [dmp, 0, 0, 0, 0, 0, 0, 0, 0],
+        in_range: is_between(1, GREATEST_POWER, dmp),
+    }
+}
+
+// The fields of a close.
+fn close_fields(p: u32) -> Fields
+    ensures { λ r. ⌜ r ≡ fieldsOf (Close p) ⌝ }
+{
+    Fields {
+        form: Form {
+            mark: CLOSE,
+            size: CLOSE_SIZE,
+            widths: [2, 0, 0, 0, 0, 0, 0, 0, 0],
+            reading_width: 0,
+        },
+        values: [p, 0, 0, 0, 0, 0, 0, 0, 0],
+        in_range: is_between(1, GREATEST_PRICE, p),
+    }
+}
+
 // The fields of any call.
 pub fn fields_of(call: Call) -> Fields
     ensures { λ r. ⌜ r ≡ fieldsOf call ⌝ }
 {
     match call {
-        Call::Year { nhrm, nhmd, ndhmd } => Fields {
-            form: Form {
-                mark: YEAR,
-                size: YEAR_SIZE,
-                widths: [2, 2, 1, 0, 0, 0, 0, 0, 0],
-                reading_width: 0,
-            },
-            values: [nhrm, nhmd, ndhmd, 0, 0, 0, 0, 0, 0],
-            in_range: both(
-                is_between(1, GREATEST_HOURS, nhrm),
-                both(
-                    is_between(1, GREATEST_HOURS, nhmd),
-                    is_between(1, GREATEST_DAY_HOURS, ndhmd),
-                ),
-            ),
-        },
-        Call::Fix { dmp } => Fields {
-            form: Form {
-                mark: FIX,
-                size: FIX_SIZE,
-                widths: [4, 0, 0, 0, 0, 0, 0, 0, 0],
-                reading_width: 0,
-            },
-            values: [dmp, 0, 0, 0, 0, 0, 0, 0, 0],
-            in_range: is_between(1, GREATEST_POWER, dmp),
-        },
-        Call::Close { p } => Fields {
-            form: Form {
-                mark: CLOSE,
-                size: CLOSE_SIZE,
-                widths: [2, 0, 0, 0, 0, 0, 0, 0, 0],
-                reading_width: 0,
-            },
-            values: [p, 0, 0, 0, 0, 0, 0, 0, 0],
-            in_range: is_between(1, GREATEST_PRICE, p),
-        },
+        Call::Year { nhrm, nhmd, ndhmd } => year_fields(nhrm, nhmd, ndhmd),
+        Call::Fix { dmp } => fix_fields(dmp),
+        Call::Close { p } => close_fields(p),
         Call::Unit { unit, act } => unit_fields(unit, act),
         Call::Consumer { consumer, act } => consumer_fields(consumer, act),
         Call::Contract {

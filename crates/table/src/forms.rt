@@ -1,4 +1,4 @@
-// The records by their marks, the form of each, and a call's fields as its record has them.
+// The records by their marks, the form of each, a call's fields as its record has them, and the fields that a kind of unit uses.
 use crate::consumers::ConsumerMark;
 use crate::contracts::ContractMark;
 use crate::units::UnitMark;
@@ -40,4 +40,13 @@ pub struct Fields {
     pub form: Form,
     pub values: [u32; FIELDS],
     pub in_range: bool,
+}
+
+// The fields that a kind of unit uses, with the flag of its supply report.
+pub struct Uses {
+    pub report: bool,
+    pub ppr: bool,
+    pub e1: bool,
+    pub e2: bool,
+    pub cap: bool,
 }

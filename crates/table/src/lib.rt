@@ -5,8 +5,6 @@ mod units; // units.rt: the records of a unit
 mod consumers; // consumers.rt: the records of a consumer
 mod contracts; // contracts.rt: the records of a contract
 mod calls; // calls.rt: the records of the whole book, and any
-mod unused; // unused.rt: the fields that a unit does not use
-mod ranges; // ranges.rt: number 3
 
 pub use calls::Call;
 pub use calls::call_of;
@@ -23,7 +21,7 @@ pub use forms::Fields;
 pub use forms::Form;
 pub use forms::Found;
 pub use forms::Mark;
-pub use ranges::call_number;
+pub use forms::Uses;
 pub use units::UnitCall;
 pub use units::UnitMark;
 pub use units::unit_number;

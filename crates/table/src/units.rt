@@ -2,8 +2,9 @@
 ghost use mathlib.Core.Path.{_≡_};
 ghost use Rattle.table.specs.Fields.{decode};
 ghost use Rattle.table.specs.Records.{unitMarks, findMark, formOf, callOf};
-ghost use Rattle.table.specs.Ranges.{unitInRange, fieldsOf, fieldsNumber};
+ghost use Rattle.table.specs.Ranges.{fieldsOf, fieldsNumber};
 ghost use Rattle.table.specs.declared.calls.Call.the-variants.{Unit};
+ghost use Rattle.table.specs.declared.units.UnitCall.the-variants.{Enrol, Test, Availability};
 ghost use Rattle.table.specs.declared.forms.Mark.the-variants as marked;
 use crate::calls::Call;
 use crate::forms::Fields;
@@ -13,8 +14,6 @@ use crate::forms::Mark;
 use crate::single::both;
 use crate::single::field_at;
 use crate::single::is_between;
-use crate::unused::unused_zero;
-use crate::unused::uses_of;
 use quantities::ALL_FLAGS;
 use quantities::GREATEST_COMPONENT;
 use quantities::GREATEST_COUNT;
@@ -145,6 +144,115 @@ pub(crate) fn unit_call(mark: UnitMark, fields: &[u8]) -> Call
     }
 }
 
+// The fields of an enrolment.
+fn enrol_fields(
+    unit: u32,
+    producer: u32,
+    kind: u32,
+    flags: u32,
+    pic: u32,
+    ppr: u32,
+    e1: u32,
+    e2: u32,
+    cap: u32,
+) -> Fields
+    ensures { λ r. ⌜ r ≡ fieldsOf (Unit unit (Enrol producer kind flags pic ppr e1 e2 cap)) ⌝ }
+{
+    Fields {
+        form: Form {
+            mark: ENROL,
+            size: ENROL_SIZE,
+            widths: [1, 1, 1, 1, 4, 4, 4, 4, 4],
+            reading_width: 0,
+        },
+        values: [unit, producer, kind, flags, pic, ppr, e1, e2, cap],
+        in_range: both(
+            is_between(1, UNITS, unit),
+            both(
+                is_between(1, PRODUCERS, producer),
+                both(
+                    is_between(1, GREATEST_KIND, kind),
+                    both(
+                        is_between(0, ALL_FLAGS, flags),
+                        both(
+                            is_between(0, GREATEST_POWER, pic),
+                            both(
+                                is_between(0, GREATEST_POWER, ppr),
+                                both(
+                                    is_between(0, GREATEST_ENERGY, e1),
+                                    both(
+                                        is_between(0, GREATEST_ENERGY, e2),
+                                        is_between(0, GREATEST_ENERGY, cap),
+                                    ),
+                                ),
+                            ),
+                        ),
+                    ),
+                ),
+            ),
+        ),
+    }
+}
+
+// The fields of a test.
+fn test_fields(unit: u32, component: u32, ending: u32, tc: u32, count: u32) -> Fields
+    ensures { λ r. ⌜ r ≡ fieldsOf (Unit unit (Test component ending tc count)) ⌝ }
+{
+    Fields {
+        form: Form {
+            mark: TEST,
+            size: TEST_SIZE,
+            widths: [1, 1, 1, 1, 1, 0, 0, 0, 0],
+            reading_width: TEST_READING,
+        },
+        values: [unit, component, ending, tc, count, 0, 0, 0, 0],
+        in_range: both(
+            is_between(1, UNITS, unit),
+            both(
+                is_between(0, GREATEST_COMPONENT, component),
+                both(
+                    is_between(0, GREATEST_ENDING, ending),
+                    both(
+                        is_between(LEAST_TIME, GREATEST_TIME, tc),
+                        is_between(0, GREATEST_COUNT, count),
+                    ),
+                ),
+            ),
+        ),
+    }
+}
+
+// The fields of an availability.
+fn availability_fields(unit: u32, component: u32, hd: u32, hmp: u32, hif: u32, hed: u32) -> Fields
+    ensures { λ r. ⌜ r ≡ fieldsOf (Unit unit (Availability component hd hmp hif hed)) ⌝ }
+{
+    Fields {
+        form: Form {
+            mark: AVAILABILITY,
+            size: AVAILABILITY_SIZE,
+            widths: [1, 1, 4, 4, 4, 4, 0, 0, 0],
+            reading_width: 0,
+        },
+        values: [unit, component, hd, hmp, hif, hed, 0, 0, 0],
+        in_range: both(
+            is_between(1, UNITS, unit),
+            both(
+                is_between(0, GREATEST_COMPONENT, component),
+                both(
+                    is_between(0, GREATEST_MINUTES, hd),
+                    both(
+                        is_between(0, GREATEST_MINUTES, hmp),
+                        both(
+                            is_between(0, GREATEST_MINUTES, hif),
+                            is_between(0, GREATEST_MINUTES, hed),
+                        ),
+                    ),
+                ),
+            ),
+        ),
+    }
+}
+
 // The fields of a unit's call.
 pub(crate) fn unit_fields(unit: u32, act: UnitCall) -> Fields
     ensures { λ r. ⌜ r ≡ fieldsOf (Unit unit act) ⌝ }
@@ -159,98 +267,20 @@ pub(crate) fn unit_fields(unit: u32, act: UnitCall) -> Fields
             e1,
             e2,
             cap,
-        } => Fields {
-            form: Form {
-                mark: ENROL,
-                size: ENROL_SIZE,
-                widths: [1, 1, 1, 1, 4, 4, 4, 4, 4],
-                reading_width: 0,
-            },
-            values: [unit, producer, kind, flags, pic, ppr, e1, e2, cap],
-            in_range: both(
-                is_between(1, UNITS, unit),
-                both(
-                    is_between(1, PRODUCERS, producer),
-                    both(
-                        is_between(1, GREATEST_KIND, kind),
-                        both(
-                            is_between(0, ALL_FLAGS, flags),
-                            both(
-                                is_between(0, GREATEST_POWER, pic),
-                                both(
-                                    is_between(0, GREATEST_POWER, ppr),
-                                    both(
-                                        is_between(0, GREATEST_ENERGY, e1),
-                                        both(
-                                            is_between(0, GREATEST_ENERGY, e2),
-                                            is_between(0, GREATEST_ENERGY, cap),
-                                        ),
-                                    ),
-                                ),
-                            ),
-                        ),
-                    ),
-                ),
-            ),
-        },
+        } => enrol_fields(unit, producer, kind, flags, pic, ppr, e1, e2, cap),
         UnitCall::Test {
             component,
             ending,
             tc,
             count,
-        } => Fields {
-            form: Form {
-                mark: TEST,
-                size: TEST_SIZE,
-                widths: [1, 1, 1, 1, 1, 0, 0, 0, 0],
-                reading_width: TEST_READING,
-            },
-            values: [unit, component, ending, tc, count, 0, 0, 0, 0],
-            in_range: both(
-                is_between(1, UNITS, unit),
-                both(
-                    is_between(0, GREATEST_COMPONENT, component),
-                    both(
-                        is_between(0, GREATEST_ENDING, ending),
-                        both(
-                            is_between(LEAST_TIME, GREATEST_TIME, tc),
-                            is_between(0, GREATEST_COUNT, count),
-                        ),
-                    ),
-                ),
-            ),
-        },
+        } => test_fields(unit, component, ending, tc, count),
         UnitCall::Availability {
             component,
             hd,
             hmp,
             hif,
             hed,
-        } => Fields {
-            form: Form {
-                mark: AVAILABILITY,
-                size: AVAILABILITY_SIZE,
-                widths: [1, 1, 4, 4, 4, 4, 0, 0, 0],
-                reading_width: 0,
-            },
-            values: [unit, component, hd, hmp, hif, hed, 0, 0, 0],
-            in_range: both(
-                is_between(1, UNITS, unit),
-                both(
-                    is_between(0, GREATEST_COMPONENT, component),
-                    both(
-                        is_between(0, GREATEST_MINUTES, hd),
-                        both(
-                            is_between(0, GREATEST_MINUTES, hmp),
-                            both(
-                                is_between(0, GREATEST_MINUTES, hif),
-                                is_between(0, GREATEST_MINUTES, hed),
-                            ),
-                        ),
-                    ),
-                ),
-            ),
-        },
+        } => availability_fields(unit, component, hd, hmp, hif, hed),
     }
 }
 
@@ -263,29 +293,4 @@ pub fn unit_number(unit: u32, act: UnitCall) -> u32
         return 0;
     }
     3
-}
-
-// What the ranges of a unit's single fields leave: its unused fields, and a test's lent readings.
-pub(crate) fn unit_in_range(act: UnitCall, readings: &[u8]) -> bool
-    ensures { λ r. ⌜ r ≡ unitInRange act (now (readings .entry)) ⌝ }
-{
-    match act {
-        UnitCall::Enrol {
-            producer: _,
-            kind,
-            flags,
-            pic,
-            ppr,
-            e1,
-            e2,
-            cap,
-        } => unused_zero(uses_of(kind), flags, pic, ppr, e1, e2, cap),
-        UnitCall::Test {
-            component: _,
-            ending,
-            tc,
-            count,
-        } => power::test_in_range(ending, tc, count, readings),
-        UnitCall::Availability { .. } => true,
-    }
 }

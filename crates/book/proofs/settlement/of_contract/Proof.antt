@@ -26,11 +26,11 @@ within c cell balance e =
     let a = c .before .before .before .before .before .before .args in
     cell-within (a .producer) (a .consumer) (a .act) (a .t1 .stage) (getD (a .t1 .consumers) (c .before .before .before .before .before .consumer-place .result) freshConsumer .declaration) (a .t1 .balances) (a .t1 .limits) cell balance (sym (c .contract-answer .ensures) ∙ e)
 
-mul-next : tie.Need-mul-next
-mul-next c = omega (arith, within (c .before .before .before) _ _ (c .before .answer2 .given .1))
+mul-book : tie.Need-mul-book
+mul-book c = omega (arith, within (c .before .before .before) _ _ (c .before .answer2 .given .1))
 
-element-write-next : tie.Need-element-write-next
-element-write-next c = omega (arith, within (c .before .before .before) _ _ (c .before .answer2 .given .1))
+element-write-book : tie.Need-element-write-book
+element-write-book c = omega (arith, within (c .before .before .before) _ _ (c .before .answer2 .given .1))
 
 returns : tie.Need-returns
 returns c = settled (c .before .before .before) _ (c .before .answer .given .1)
@@ -48,7 +48,7 @@ of-contract-spec =
     (λ c κs. search needs)
     (λ c. search needs)
     (λ c. search needs)
-    mul-next
-    element-write-next
+    mul-book
+    element-write-book
     returns
     returns-2)

@@ -1,9 +1,9 @@
--- `table::ranges::rest_in_range` meets its contract: each arm by the definition's own clause.
+-- `ranges::rest_in_range` meets its contract: each arm by the definition's own clause.
 -- Assumes nothing.
 use borrow.Author.Needs.{needs}
 use Rattle.table.specs.Ranges.{restInRange}
-use Rattle.table.proofs.ranges.rest_in_range.Statement.{statement}
-use Rattle.table.proofs.ranges.rest_in_range.Tie as tie
+use Rattle.ranges.proofs.rest_in_range.Statement.{statement}
+use Rattle.ranges.proofs.rest_in_range.Tie as tie
 
 pub rest-in-range-spec : {M : Type 1} → statement M
 unfolding restInRange

@@ -1,8 +1,8 @@
--- `table::units::unit_in_range` meets its contract: each arm by the definition's own clause.
+-- `ranges::unit_in_range` meets its contract: each arm by the definition's own clause.
 -- Assumes nothing.
 use borrow.Author.Needs.{needs}
-use Rattle.table.proofs.units.unit_in_range.Statement.{statement}
-use Rattle.table.proofs.units.unit_in_range.Tie as tie
+use Rattle.ranges.proofs.unit_in_range.Statement.{statement}
+use Rattle.ranges.proofs.unit_in_range.Tie as tie
 
 pub unit-in-range-spec : {M : Type 1} → statement M
 unit-in-range-spec =

@@ -1,12 +1,12 @@
--- `table::ranges::call_number` meets its contract: by the answer of its fields and of the other test.
+-- `ranges::call_number` meets its contract: by the answer of its fields and of the other test.
 -- Assumes nothing.
 use mathlib.Core.Path.{refl}
 use borrow.Author.Needs.{needs}
 use denote.Ref.{now}
 use Rattle.basis.proofs.Answers.{answered-yes, answered-no}
 use Rattle.table.proofs.Laws.{number-in, number-out, number-rest}
-use Rattle.table.proofs.ranges.call_number.Statement.{statement}
-use Rattle.table.proofs.ranges.call_number.Tie as tie
+use Rattle.ranges.proofs.call_number.Statement.{statement}
+use Rattle.ranges.proofs.call_number.Tie as tie
 
 returns : tie.Need-returns
 returns c =

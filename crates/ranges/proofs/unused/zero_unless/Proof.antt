@@ -1,8 +1,8 @@
--- `table::unused::zero_unless` meets its contract: by the test.
+-- `ranges::unused::zero_unless` meets its contract: by the test.
 -- Assumes nothing.
 use borrow.Author.Needs.{needs}
-use Rattle.table.proofs.unused.zero_unless.Statement.{statement}
-use Rattle.table.proofs.unused.zero_unless.Tie as tie
+use Rattle.ranges.proofs.unused.zero_unless.Statement.{statement}
+use Rattle.ranges.proofs.unused.zero_unless.Tie as tie
 
 returns-2 : tie.Need-returns-2
 returns-2 c = simp (c .if1 .left)

@@ -1,11 +1,11 @@
--- `table::unused::uses_of` meets its contract: each arm by the ranges of the kinds.
+-- `ranges::unused::uses_of` meets its contract: each arm by the ranges of the kinds.
 -- Assumes nothing.
 use native.Mathlib.Omega.{arith}
 use borrow.Author.Tests.{ne-eqb}
 use Rattle.table.specs.Ranges.{usesOf}
 use Rattle.basis.proofs.Answers.{in-between, below-range, above-range}
-use Rattle.table.proofs.unused.uses_of.Statement.{statement}
-use Rattle.table.proofs.unused.uses_of.Tie as tie
+use Rattle.ranges.proofs.unused.uses_of.Statement.{statement}
+use Rattle.ranges.proofs.unused.uses_of.Tie as tie
 
 returns : tie.Need-returns
 unfolding usesOf

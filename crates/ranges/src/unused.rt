@@ -1,18 +1,10 @@
 // The fields of a unit that its kind and flags do not use.
 ghost use mathlib.Core.Path.{_≡_};
 ghost use Rattle.table.specs.Ranges.{usesOf, unsetUnless, zeroUnless, unusedZero};
 use quantities::INJECTION_GIVEN;
 use quantities::REPORT_HELD;
 use quantities::is_flagged;
-
-// The fields that a kind of unit uses, with the flag of its supply report.
-pub struct Uses {
-    pub report: bool,
-    pub ppr: bool,
-    pub e1: bool,
-    pub e2: bool,
-    pub cap: bool,
-}
+use table::Uses;
 
 // None of them.
 const NONE: Uses = Uses {
@@ -24,7 +16,7 @@ const NONE: Uses = Uses {
 };
 
 // The flag of the supply report and the fields PPR, E1, E2 and CAP by kind.
-pub fn uses_of(kind: u32) -> Uses
+pub(crate) fn uses_of(kind: u32) -> Uses
     ensures { λ r. ⌜ r ≡ usesOf kind ⌝ }
 {
     match kind {
@@ -49,7 +41,7 @@ pub fn uses_of(kind: u32) -> Uses
 }
 
 // A flag that is not used does not stand.
-pub fn unset_unless(used: bool, stands: bool) -> bool
+pub(crate) fn unset_unless(used: bool, stands: bool) -> bool
     ensures { λ r. ⌜ r ≡ unsetUnless used stands ⌝ }
 {
     if used {
@@ -59,7 +51,7 @@ pub fn unset_unless(used: bool, stands: bool) -> bool
 }
 
 // A field that is not used is 0.
-pub fn zero_unless(used: bool, value: u32) -> bool
+pub(crate) fn zero_unless(used: bool, value: u32) -> bool
     ensures { λ r. ⌜ r ≡ zeroUnless used value ⌝ }
 {
     if used {
@@ -69,7 +61,15 @@ pub fn zero_unless(used: bool, value: u32) -> bool
 }
 
 // The flags and fields of a unit that its kind and flags do not use are 0.
-pub fn unused_zero(uses: Uses, flags: u32, pic: u32, ppr: u32, e1: u32, e2: u32, cap: u32) -> bool
+pub(crate) fn unused_zero(
+    uses: Uses,
+    flags: u32,
+    pic: u32,
+    ppr: u32,
+    e1: u32,
+    e2: u32,
+    cap: u32,
+) -> bool
     ensures { λ r. ⌜ r ≡ unusedZero uses flags pic ppr e1 e2 cap ⌝ }
 {
     if !unset_unless(uses.report, is_flagged(REPORT_HELD, flags)) {

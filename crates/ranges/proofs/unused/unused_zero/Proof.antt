@@ -1,12 +1,12 @@
--- `table::unused::unused_zero` meets its contract: each test passed leaves the tests behind it.
+-- `ranges::unused::unused_zero` meets its contract: each test passed leaves the tests behind it.
 -- Assumes nothing.
 use mathlib.Core.Path.{_≡_, sym, ap, _∙_}
 use borrow.Author.Needs.{needs}
 use Rattle.quantities.specs.Flags.{injectionGiven, reportHeld, flagged}
 use Rattle.table.specs.Ranges.{unsetUnless, zeroUnless, unusedZero}
 use Rattle.basis.proofs.Answers.{answered-yes, answered-no, passed, failed}
-use Rattle.table.proofs.unused.unused_zero.Statement.{statement}
-use Rattle.table.proofs.unused.unused_zero.Tie as tie
+use Rattle.ranges.proofs.unused.unused_zero.Statement.{statement}
+use Rattle.ranges.proofs.unused.unused_zero.Tie as tie
 
 -- what the tests of the flags answer
 report : (w : tie.After-unset-unless) → w .unset-unless .result ≡ unsetUnless (w .before .before .args .uses .report) (flagged reportHeld (w .before .before .args .flags))
