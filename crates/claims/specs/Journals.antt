@@ -5,7 +5,7 @@ use Prim.Native.Nat.{ℕ, suc, _+_}
 use lib.ListN.{length}
 use Rattle.state.specs.State.{freshBook}
 use Rattle.book.specs.Lists.{acceptedBy}
-use Rattle.journal.specs.Run.{namedPlaces, runOf, runFrom}
+use Rattle.journal.specs.Run.{namedPlaces, namedNumbers, runOf, runFrom}
 use Rattle.journal.specs.Calls.{callsOf, FirstRefusedAt}
 use Rattle.claims.specs.Demand.{Demand3}
 
@@ -14,8 +14,8 @@ pub record EveryJournal (journal : List ℕ) : Type 0 where
   pub demand : Demand3 (acceptedBy freshBook [] (callsOf journal)) (runOf journal .book)
   -- records read are those accepted and those refused
   pub counts : runOf journal .read ≡ runOf journal .accepted + runOf journal .refused
-  -- a named place is that of a refused record, the first one
-  pub named : (place : ℕ) → namedPlaces (runOf journal .first) ≡ place ∷ [] → FirstRefusedAt journal place
+  -- a named place and number are those of a refused record, the first one
+  pub named : (place number : ℕ) → namedPlaces (runOf journal .first) ≡ place ∷ [] → namedNumbers (runOf journal .first) ≡ number ∷ [] → FirstRefusedAt journal place number
   -- none is named only where none was refused
   pub none-named : namedPlaces (runOf journal .first) ≡ [] → runOf journal .refused ≡ 0
   -- the run of a journal's beginning that stops nowhere is the run's beginning

@@ -46,10 +46,11 @@ numbersAfter b (e ∷ es) = replyTo b e .number ∷ numbersAfter (replyTo b e .b
 unfoldable pub replyNumbers : List ℕ → List ℕ
 replyNumbers s = numbersAfter freshBook (callsOf s)
 
--- the record at a place is the first of the read records that was refused
-pub record FirstRefusedAt (s : List ℕ) (place : ℕ) : Type 0 where
+-- the record at a place is the first of the read records that was refused, with this number
+pub record FirstRefusedAt (s : List ℕ) (place number : ℕ) : Type 0 where
   pub index : ℕ
   pub read : index < length (callsOf s)
   pub placed : getD (recordPlaces s) index 0 ≡ place
-  pub refused : getD (replyNumbers s) index 0 ≡ 0 → ⊥
+  pub numbered : getD (replyNumbers s) index 0 ≡ number
+  pub refused : number ≡ 0 → ⊥
   pub earlier : (k : ℕ) → k < index → getD (replyNumbers s) k 0 ≡ 0

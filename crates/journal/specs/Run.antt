@@ -21,12 +21,17 @@ started =
 -- what the answer names: no place where nothing was refused, else the place of one record
 abbrev pub namedPlaces : FirstRefused → List ℕ
 namedPlaces Nothing = []
-namedPlaces (At place) = place ∷ []
+namedPlaces (At place number) = place ∷ []
 
--- a record was refused at a place: the first such place stays
-abbrev pub refusedAt : FirstRefused → ℕ → FirstRefused
-refusedAt Nothing place = At place
-refusedAt (At first) place = At first
+-- .. and its number
+abbrev pub namedNumbers : FirstRefused → List ℕ
+namedNumbers Nothing = []
+namedNumbers (At place number) = number ∷ []
+
+-- a record was refused at a place with a number: the first one stays
+abbrev pub refusedAt : FirstRefused → ℕ → ℕ → FirstRefused
+refusedAt Nothing place number = At place number
+refusedAt (At first said) place number = At first said
 
 -- the call of the record at the run's place was answered, and the next record is looked for behind it
 abbrev pub answered : Run → Reply → ℕ → Run
@@ -39,7 +44,7 @@ answered r reply next =
       refused = pick accepted (r .refused) (r .refused + 1);
       stop = r .stop;
       place = next;
-      first = pick accepted (r .first) (refusedAt (r .first) (r .place));
+      first = pick accepted (r .first) (refusedAt (r .first) (r .place) (reply .number));
     }
 
 -- the reading stopped at the run's place, "the stopping one is in no count"

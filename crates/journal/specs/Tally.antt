@@ -20,7 +20,7 @@ tallied t number next =
       accepted = pick accepted (t .accepted + 1) (t .accepted);
       refused = pick accepted (t .refused) (t .refused + 1);
       place = next;
-      first = pick accepted (t .first) (refusedAt (t .first) (t .place));
+      first = pick accepted (t .first) (refusedAt (t .first) (t .place) number);
     }
 
 -- the run of a tally and a book

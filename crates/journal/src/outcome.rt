@@ -5,10 +5,10 @@ ghost use Rattle.journal.specs.Run.{refusedAt};
 ghost use Rattle.journal.specs.Tally.{noTally, tallied, runWith};
 use state::Book;
 
-// The place of the first record that was refused, if any was.
+// The place of the first record that was refused, with its number, if any was.
 pub enum FirstRefused {
     Nothing,
-    At(usize),
+    At { place: usize, number: u32 },
 }
 
 pub struct Run {
@@ -44,12 +44,12 @@ pub(crate) fn no_tally() -> Tally
     }
 }
 
-pub(crate) fn refused_at(first: FirstRefused, place: usize) -> FirstRefused
-    ensures { λ r. ⌜ r ≡ refusedAt first place ⌝ }
+pub(crate) fn refused_at(first: FirstRefused, place: usize, number: u32) -> FirstRefused
+    ensures { λ r. ⌜ r ≡ refusedAt first place number ⌝ }
 {
     match first {
-        FirstRefused::Nothing => FirstRefused::At(place),
-        FirstRefused::At(earlier) => FirstRefused::At(earlier),
+        FirstRefused::Nothing => FirstRefused::At { place, number },
+        FirstRefused::At { .. } => first,
     }
 }
 
@@ -73,7 +73,7 @@ pub(crate) fn counted(tally: Tally, number: u32, next: usize) -> Tally
         accepted: tally.accepted,
         refused: tally.refused + 1,
         place: next,
-        first: refused_at(first, tally.place),
+        first: refused_at(first, tally.place, number),
     }
 }
 

@@ -4,17 +4,16 @@ use mathlib.Core.Bool.{Bool, true, false}
 use mathlib.Core.List.{List}
 use Prim.Native.Nat.{ℕ, _+_, _≤_, _<_}
 use native.Mathlib.Omega.{arith}
-use borrow.Author.Tests.{lt-ltb, le-ltb, ltb-false, ne-eqb}
+use borrow.Author.Tests.{lt-ltb, le-ltb, ltb-false}
 use lib.Dec.{ltb}
 use lib.ListN.{length, take, drop}
 use lib.Seq.{take-at}
 use Rattle.basis.specs.Numbers.{written}
 use Rattle.basis.specs.Choice.{pick}
-use Rattle.journal.specs.declared.outcome.Run.{Run}
 use Rattle.journal.specs.Run.{runOf}
 use Rattle.listing.specs.declared.Listed.{Listed}
 use Rattle.text.specs.Text.{Puts}
-use Rattle.listing.specs.Listing.{listingOf, listingMost, listed, listedOf, listedIn, Lists, outputOf, ListsJournal, mostInput, tooLong}
+use Rattle.listing.specs.Listing.{listingOf, listingMost, listed, listedOf, listedIn, Lists, outputOf, mostInput, tooLong}
 
 module _ (text : List ℕ) (short : length text ≤ listingMost) (out : List ℕ) where
   -- the buffer is shorter than the text
@@ -45,7 +44,7 @@ module _ {m n : ℕ} {text old new : List ℕ} (put : Puts m text old 0 n new) w
   front-length = as-long ∙ ap length (sym front)
 
 -- with number 0 the size is that of the text
-listed-size : (text : List ℕ) (room : ℕ) → listedOf text room .number ≡ 0 → listedOf text room .size ≡ length text
+pub listed-size : (text : List ℕ) (room : ℕ) → listedOf text room .number ≡ 0 → listedOf text room .size ≡ length text
 unfolding listedOf
 listed-size text room = go (ltb room (length text))
   where
@@ -67,32 +66,6 @@ pub listed-whole : {text old new : List ℕ} {r : Listed} → Lists text old r n
 unfolding listedOf
 listed-whole {text} {old} {new} {r} h k =
     h .answer ∙ rw (le-ltb (length old) (length text) (omega (arith, h .short)))
-
-module _ (s : List ℕ) {old new : List ℕ} {run : Run} {r : Listed} (before : ℕ) (e : run ≡ runOf s) (h : Lists (listingOf run) old r new) where
-  lists : Lists (listingOf (runOf s)) old r new
-  lists = rw e at h
-
-  -- nothing is told
-  pub journal-refused : (r .number ≡ 0 → ⊥) → ListsJournal s old before (r .number) new before
-  journal-refused n =
-      record {
-        answer = ap (λ (x : Listed). x .number) (lists .answer);
-        bytes = lists .bytes;
-        size = rw (ne-eqb (r .number) 0 n);
-        short = lists .short;
-      }
-
-  -- the size is told
-  pub journal-put : r .number ≡ 0 → ListsJournal s old before 0 new (r .size)
-  journal-put n =
-      let a : r .number ≡ listedOf (listingOf (runOf s)) (length old) .number = ap (λ (x : Listed). x .number) (lists .answer) in
-      record {
-        answer = sym n ∙ a;
-        bytes = lists .bytes;
-        size =
-            ap (λ (x : Listed). x .size) (lists .answer) ∙ listed-size (listingOf (runOf s)) (length old) (sym a ∙ n);
-        short = lists .short;
-      }
 
 -- the output of an input that is too long, and of another
 pub output-too-long : (input : List ℕ) → mostInput < length input → outputOf input ≡ tooLong

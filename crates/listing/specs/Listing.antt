@@ -2,7 +2,7 @@
 use mathlib.Core.Path.{_≡_}
 use mathlib.Core.List.{List, [], _∷_, _++_}
 use Prim.Native.Nat.{ℕ, _+_, _*_, _≤_}
-use lib.Dec.{ltb, eqb}
+use lib.Dec.{ltb}
 use lib.ListN.{length}
 use Rattle.basis.specs.Choice.{pick}
 use Rattle.basis.specs.Numbers.{written}
@@ -86,10 +86,3 @@ tooLong = 88 ∷ 10 ∷ []
 
 unfoldable pub outputOf : List ℕ → List ℕ
 outputOf input = let listing = listingOf (runOf input) in pick (ltb mostInput (length input)) tooLong listing
-
--- the same for C: the listing of a journal's run; its bytes are told only where the text was put
-pub record ListsJournal (journal old : List ℕ) (before r : ℕ) (new : List ℕ) (told : ℕ) : Type 0 where
-  pub answer : r ≡ listedOf (listingOf (runOf journal)) (length old) .number
-  pub bytes : new ≡ listedIn (listingOf (runOf journal)) old
-  pub size : told ≡ pick (eqb r 0) (length (listingOf (runOf journal))) before
-  pub short : length (listingOf (runOf journal)) ≤ listingMost

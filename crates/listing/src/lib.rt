@@ -1,10 +1,8 @@
 // The listing of a run, line by line ("Journal in, listing out").
-mod face; // face.rt: the listing of a journal, as C calls it
 mod lines; // lines.rt: the listing, letter after letter
 mod output; // output.rt: what the program writes for its input
 
 ghost use Rattle.listing.specs.Listing.{listingOf, Lists};
-pub use face::yearbook_list;
 use journal::Run;
 pub use output::MOST_INPUT;
 pub use output::put_output;
@@ -35,6 +33,6 @@ pub fn put_listing(run: Run, out: &mut [u8]) -> Listed
             size: 0,
         };
     }
-    put_text(out, &whole[..size]);
+    put_text(out, 0, &whole[..size]);
     Listed { number: 0, size }
 }

@@ -4,7 +4,6 @@ ghost use mathlib.Core.Path.{_≡_};
 ghost use mathlib.Core.List.{[], _∷_};
 ghost use Prim.Native.Nat.{_+_, _*_, _≤_};
 ghost use lib.ListN.{length, take};
-ghost use Rattle.basis.specs.Numbers.{written};
 ghost use Rattle.text.specs.Text.{Puts, amountMost, spacedMost, lineAmounts, lineMost, decimal, amountOf, spaced, textOf, plain, numbered};
 
 // An amount with its sign: plus less minus.
@@ -54,16 +53,17 @@ pub fn put_byte(out: &mut [u8], at: usize, byte: u8) -> usize
     at + 1
 }
 
-// The text over the front of out.
-pub fn put_text(out: &mut [u8], text: &[u8])
-    requires { ⌜ length (now text) ≤ length (now out) ⌝ }
-    ensures { λ _. ⌜ now (out .exit) ≡ written (now (out .entry)) 0 (now (text .entry)) ⌝ }
+// The bytes of a text.
+pub fn put_text(out: &mut [u8], at: usize, text: &[u8]) -> usize
+    requires { ⌜ at + length (now text) ≤ length (now out) ⌝ }
+    ensures { λ r. ⌜ Puts (length (now (text .entry))) (now (text .entry)) (now (out .entry)) at r (now (out .exit)) ⌝ }
 {
     let mut i = 0;
     while i < text.len() {
-        out[i] = text[i];
+        out[at + i] = text[i];
         i += 1;
     }
+    at + text.len()
 }
 
 // The decimal digits of x.

@@ -1,13 +1,81 @@
-// Journal in, listing out.
-use libc::STDIN_FILENO;
-use libc::STDOUT_FILENO;
+// `yearbook [WORD] [FILE]`: words, reading and writing. What is printed of a journal is made in `desk`.
+mod arguments; // arguments.rt: what the program is asked for
+mod input; // input.rt: the input, read whole
+mod output; // output.rt: what goes to standard output and standard error
 
-// One byte more than has a listing is read, so that longer input is known.
+use arguments::Word;
+use arguments::help;
+use arguments::unknown;
+use arguments::usage;
+use arguments::word_of;
+use libc::STDIN_FILENO;
+use output::fail;
+use output::tell;
+
+// What the word asks for, of a descriptor that the name stands for.
+fn answer(is_replies: bool, descriptor: i32, name: &[u8]) {
+    let mut space = [0u8; listing::MOST_INPUT + 1]; // one byte more than is taken, so that longer input is known
+    let taken = input::read_whole(descriptor, &mut space);
+    if taken.is_failed {
+        fail(name);
+        return;
+    }
+    let count = taken.count;
+    tell(is_replies, &space[..count]);
+}
+
+// What the word asks for, of a file. A file that stands alone may be a mistyped word.
+fn answer_file(is_replies: bool, path: &[u8]) {
+    let descriptor = os::open_read(path);
+    if descriptor < 0 {
+        fail(path);
+        if !is_replies {
+            usage();
+        }
+        return;
+    }
+    answer(is_replies, descriptor, path);
+    libc::close(descriptor);
+}
+
 fn main() {
-    let mut input = [0u8; listing::MOST_INPUT + 1];
-    let mut output = [0u8; listing::LONGEST];
-    let count = io::read_full(STDIN_FILENO, &mut input);
-    let listed = listing::put_output(&input[..count], &mut output);
-    let size = listed.size;
-    io::write_all(STDOUT_FILENO, &output[..size]);
+    let count = os::arg_count();
+    if count < 2 {
+        answer(false, STDIN_FILENO, b"standard input");
+        return;
+    }
+    let mut first = io::buffer();
+    let length = os::arg(1, &mut first);
+    if os::errno() != 0 {
+        fail(b"first argument");
+        return;
+    }
+    match word_of(&first[..length]) {
+        Word::Help => help(),
+        Word::Unknown => unknown(&first[..length]),
+        Word::Replies => {
+            if count == 2 {
+                answer(true, STDIN_FILENO, b"standard input");
+                return;
+            }
+            let mut second = io::buffer();
+            let size = os::arg(2, &mut second);
+            if os::errno() != 0 {
+                fail(b"second argument");
+                return;
+            }
+            if count > 3 {
+                usage();
+                return;
+            }
+            answer_file(true, &second[..size]);
+        }
+        Word::File => {
+            if count > 2 {
+                unknown(&first[..length]);
+                return;
+            }
+            answer_file(false, &first[..length]);
+        }
+    }
 }

@@ -39,7 +39,7 @@ returns-2 c =
     let p = c .before .before .before .before .before .before .before .put-run .ensures in
     let o = now (c .before .before .before .before .before .before .before .before .before .before .args .out) in
     lists-put (listingOf (c .before .before .before .before .before .before .before .before .before .before .args .run)) (p .short) o (omega (arith, as-long p)) (as-long p)
-    (c .before .before .put-text .ensures ∙ ap (λ (l : List ℕ). written o 0 l) (front p))
+    (c .before .before .put-text .ensures .bytes ∙ ap (λ (l : List ℕ). written o 0 l) (front p))
 
 pub put-listing-spec : {M : Type 1} → statement M
 put-listing-spec =

@@ -2,6 +2,7 @@
 use mathlib.Core.List.{List, _∷_}
 use mathlib.Core.Path.{_≡_, refl, sym, ap, _∙_}
 use Prim.Native.Nat.{ℕ, suc, _+_, _-_, _≤_}
+use native.Mathlib.Nat.{add-zero, le-refl}
 use native.Mathlib.Numerals.{add-one}
 use native.Mathlib.Omega.{arith}
 use borrow.Author.Needs.{needs}
@@ -14,42 +15,28 @@ use Rattle.text.proofs.put_text.Statement.{statement}
 use Rattle.text.proofs.put_text.Tie as tie
 
 abbrev Inv-loop : tie.InvT-loop
-Inv-loop out₀ text i₀ out i =
-    (i ≤ length text) × (length out ≡ length out₀) × (written out i (drop i text) ≡ written out₀ 0 text)
+Inv-loop out₀ at text i₀ out i =
+    (i ≤ length text) × (length out ≡ length out₀) × (written out (at + i) (drop i text) ≡ written out₀ at text)
 
 abbrev μ-loop : tie.MeasureT-loop
-μ-loop out₀ text i₀ out i = length text - i
+μ-loop out₀ at text i₀ out i = length text - i
 
 loop-holds : tie.Need-loop-holds Inv-loop μ-loop
-loop-holds c = (omega arith, refl, refl)
-
-shared-slice-read-out : tie.Need-shared-slice-read-out Inv-loop μ-loop
-shared-slice-read-out c = search needs
-
-slice-write-out : tie.Need-slice-write-out Inv-loop μ-loop
-slice-write-out c = search needs
-
-add-i : tie.Need-add-i Inv-loop μ-loop
-add-i c = search needs
-
-loop-less : tie.Need-loop-less Inv-loop μ-loop
-loop-less c = search needs
+loop-holds c = rw (add-zero) (omega arith, refl, refl)
 
 loop-again : tie.Need-loop-again Inv-loop μ-loop
 loop-again c =
     let a = c .before .before .before .args in
     let l = c .before .before .loop in
-    let b = now (a .text) in (
+    let b = now (a .text) in
+    let k : suc (a .at + l .i) ≡ a .at + (l .i + 1) = omega arith in (
       omega arith,
-      length-set (l .out) (l .i) (getD b (l .i) 0) ∙ l .inv .1,
-      ap (λ j. written (set (l .out) (l .i) (getD b (l .i) 0)) j (drop (l .i + 1) b)) (add-one (l .i))
-          ∙ sym (written-cons (l .out) (l .i) (getD b (l .i) 0) (drop (l .i + 1) b) (omega arith))
-          ∙ ap (λ (r : List ℕ). written (l .out) (l .i) r) (ap (λ j. getD b (l .i) 0 ∷ drop j b) (add-one (l .i)) ∙ sym (drop-cons b (l .i) 0 (omega arith)))
+      length-set (l .out) (a .at + l .i) (getD b (l .i) 0) ∙ l .inv .1,
+      ap (λ j. written (set (l .out) (a .at + l .i) (getD b (l .i) 0)) j (drop (l .i + 1) b)) (sym k)
+          ∙ sym (written-cons (l .out) (a .at + l .i) (getD b (l .i) 0) (drop (l .i + 1) b) (omega arith))
+          ∙ ap (λ (r : List ℕ). written (l .out) (a .at + l .i) r) (ap (λ j. getD b (l .i) 0 ∷ drop j b) (add-one (l .i)) ∙ sym (drop-cons b (l .i) 0 (omega arith)))
           ∙ l .inv .2,
     )
-
-same-length : tie.Need-same-length Inv-loop μ-loop
-same-length c = search needs
 
 returns : tie.Need-returns Inv-loop μ-loop
 returns c =
@@ -57,9 +44,14 @@ returns c =
     let l = c .before .loop in
     let b = now (a .text) in
     let h : length b ≤ l .i = omega arith in
-    sym (written-none (l .out) (l .i))
-    ∙ ap (λ (r : List ℕ). written (l .out) (l .i) r) (sym (drop-of-length-le b h))
-    ∙ l .inv .2
+    record {
+      next = refl;
+      bytes =
+          sym (written-none (l .out) (a .at + l .i))
+          ∙ ap (λ (r : List ℕ). written (l .out) (a .at + l .i) r) (sym (drop-of-length-le b h))
+          ∙ l .inv .2;
+      short = le-refl (length b);
+    }
 
 pub put-text-spec : {M : Type 1} → statement M
 put-text-spec =
@@ -68,10 +60,12 @@ put-text-spec =
     Inv-loop
     μ-loop
     loop-holds
-    shared-slice-read-out
-    slice-write-out
-    add-i
-    loop-less
+    (λ c. search needs)
+    (λ c. search needs)
+    (λ c. search needs)
+    (λ c. search needs)
+    (λ c. search needs)
     loop-again
-    same-length
+    (λ c. search needs)
+    (λ c. search needs)
     returns)

@@ -6,14 +6,14 @@ use Rattle.journal.proofs.outcome.refused_at.Tie as tie
 enum-told : tie.Need-enum-told
 enum-told c = search needs
 
-enum-known-first : tie.Need-enum-known-first
-enum-known-first c = search needs
+enum-told-2 : tie.Need-enum-told-2
+enum-told-2 c = search needs
 
 returns : tie.Need-returns
 returns c = rw (c .enum-told .given .1)
 
 returns-2 : tie.Need-returns-2
-returns-2 c = rw (c .before .first .given .1)
+returns-2 c = rw (c .enum-told2 .given .1)
 
 pub refused-at-spec : {M : Type 1} → statement M
-refused-at-spec = tie.close (tie.spec enum-told enum-known-first returns returns-2)
+refused-at-spec = tie.close (tie.spec enum-told enum-told-2 returns returns-2)

@@ -1,10 +1,10 @@
--- `listing::yearbook_list` meets its contract. Assumes nothing.
+-- `yearbook_c::yearbook_list` meets its contract. Assumes nothing.
 use native.Mathlib.Omega.{arith}
 use borrow.Author.Needs.{needs}
 use denote.Ref.{now}
-use Rattle.listing.proofs.Answers.{journal-refused, journal-put}
-use Rattle.listing.proofs.face.yearbook_list.Statement.{statement}
-use Rattle.listing.proofs.face.yearbook_list.Tie as tie
+use Rattle.yearbook_c.proofs.Told.{journal-refused, journal-put}
+use Rattle.yearbook_c.proofs.yearbook_list.Statement.{statement}
+use Rattle.yearbook_c.proofs.yearbook_list.Tie as tie
 
 run-requires : tie.Need-run-requires
 run-requires c κs = search needs

@@ -1,7 +1,7 @@
-// The listing of a journal, as C calls it.
-ghost use Rattle.listing.specs.Listing.{ListsJournal};
-use crate::put_listing;
+// Level Year as C calls it (include/yearbook.h).
+ghost use Rattle.yearbook_c.specs.Yearbook.{ListsJournal};
 use journal::run;
+use listing::put_listing;
 
 // Runs the journal and puts its listing over the front of the buffer; answers 15, or 0 with the bytes of the text.
 #[no_mangle]

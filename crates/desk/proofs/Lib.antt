@@ -1,0 +1,5 @@
+-- What the checker checks of the program's words.
+pub mod Lines
+pub mod Found
+pub mod Told
+pub mod Silence

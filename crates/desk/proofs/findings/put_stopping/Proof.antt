@@ -1,0 +1,26 @@
+-- `desk::put_stopping` meets its contract. Assumes nothing.
+use native.Mathlib.Omega.{arith}
+use borrow.Author.Needs.{needs}
+use borrow.Author.Tests.{eq-eqb, ne-eqb}
+use denote.Ref.{now}
+use Rattle.text.proofs.Putting.{puts-none, puts-within}
+use Rattle.words.specs.Numbers.{bytes}
+use Rattle.desk.specs.Findings.{stopping}
+use Rattle.words.proofs.Pieces.{puts-more}
+use Rattle.desk.proofs.findings.put_stopping.Statement.{statement}
+use Rattle.desk.proofs.findings.put_stopping.Tie as tie
+
+returns : tie.Need-returns
+unfolding stopping
+returns c =
+    rw (eq-eqb (c .before .before .args .stop) 0 (c .if1 .taken))
+    (puts-within (omega arith) (puts-none (now (c .before .before .args .out)) (c .before .before .args .at)))
+
+returns-2 : tie.Need-returns-2
+unfolding stopping bytes
+returns-2 c =
+    rw (ne-eqb (c .before .before .before .before .before .before .before .before .before .before .before .args .stop) 0 (c .before .before .before .before .before .before .before .before .before .if1 .left))
+    (puts-within (omega arith) (puts-more (omega arith) (c .before .before .before .before .before .before .put-text .ensures) (λ h. c .before .before .put-at-place .ensures)))
+
+pub put-stopping-spec : {M : Type 1} → statement M
+put-stopping-spec = tie.close (tie.spec returns (λ c. search needs) (λ c κs. search needs) (λ c κs. search needs) (λ c. search needs) returns-2)

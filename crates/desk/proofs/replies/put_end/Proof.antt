@@ -1,0 +1,27 @@
+-- `desk::put_end` meets its contract. Assumes nothing.
+use native.Mathlib.Omega.{arith}
+use borrow.Author.Needs.{needs}
+use borrow.Author.Tests.{eq-eqb, ne-eqb}
+use Rattle.text.proofs.Putting.{puts-within}
+use Rattle.words.specs.Numbers.{bytes}
+use Rattle.desk.specs.Replies.{endLine}
+use Rattle.words.proofs.Pieces.{puts-more}
+use Rattle.desk.proofs.replies.put_end.Statement.{statement}
+use Rattle.desk.proofs.replies.put_end.Tie as tie
+
+returns : tie.Need-returns
+unfolding endLine bytes
+returns c =
+    rw (eq-eqb (c .before .before .before .before .before .before .before .before .before .before .before .args .stop) 0 (c .before .before .before .before .before .if1 .taken))
+    (puts-within (omega arith) (puts-more (omega arith) (c .before .before .before .before .before .before .before .before .put-figure .ensures) (λ h. c .before .before .put-text .ensures)))
+
+returns-2 : tie.Need-returns-2
+unfolding endLine bytes
+returns-2 c =
+    rw (ne-eqb (c .before .before .before .before .before .before .before .before .before .before .before .before .before .before .before .args .stop) 0 (c .before .before .before .before .before .before .before .before .before .if1 .left))
+    (puts-within (omega arith)
+    (puts-more (omega arith) (c .before .before .before .before .before .before .before .before .before .before .before .before .put-figure .ensures)
+    (λ h. puts-more h (c .before .before .before .before .before .before .put-text2 .ensures) (λ k. c .before .before .put-said .ensures))))
+
+pub put-end-spec : {M : Type 1} → statement M
+put-end-spec = tie.close (tie.spec (λ c κs. search needs) (λ c. search needs) (λ c κs. search needs) (λ c. search needs) returns (λ c. search needs) (λ c κs. search needs) (λ c κs. search needs) (λ c. search needs) returns-2)

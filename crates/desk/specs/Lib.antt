@@ -1,0 +1,4 @@
+-- Definitions of what the program says in words.
+pub mod Replies
+pub mod Findings
+pub mod Promises

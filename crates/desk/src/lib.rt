@@ -1,0 +1,10 @@
+// The trader's desk: what the program says of a journal, a line for each record's reply, and what is found wrong with it.
+mod findings; // findings.rt: what is found wrong with a journal
+mod replies; // replies.rt: the replies, line by line
+
+pub use findings::LONGEST_FINDINGS;
+pub use findings::Sizes;
+pub use findings::put_desk;
+pub use replies::LONGEST_REPLY;
+pub use replies::Told;
+pub use replies::put_reply;

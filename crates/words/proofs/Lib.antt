@@ -1,0 +1,2 @@
+-- Laws of texts that are put piece by piece.
+pub mod Pieces

@@ -1,0 +1,3 @@
+-- Definitions of the words for numbers and calls.
+pub mod Numbers
+pub mod Calls

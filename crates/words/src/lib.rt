@@ -1,0 +1,9 @@
+// The numbered replies and the calls in words.
+// For our own crates and not for buyers, as `text` is: a function here requires that the buffer has room for what it puts.
+mod calls; // calls.rt: a call in words
+mod numbers; // numbers.rt: the numbered replies in words
+
+pub use calls::put_call;
+pub use numbers::put_at_place;
+pub use numbers::put_figure;
+pub use numbers::put_said;

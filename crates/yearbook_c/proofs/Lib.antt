@@ -1,0 +1,2 @@
+-- What the checker checks of the functions for C.
+pub mod Told

@@ -1,0 +1,2 @@
+-- Definitions of what C is answered.
+pub mod Yearbook

@@ -1,0 +1,16 @@
+-- What the functions for C of Level Year answer and leave in the lent buffers.
+use mathlib.Core.Path.{_≡_}
+use mathlib.Core.List.{List}
+use Prim.Native.Nat.{ℕ, _≤_}
+use lib.Dec.{eqb}
+use lib.ListN.{length}
+use Rattle.basis.specs.Choice.{pick}
+use Rattle.journal.specs.Run.{runOf}
+use Rattle.listing.specs.Listing.{listingOf, listingMost, listedOf, listedIn}
+
+-- the listing of a journal's run; its bytes are told only where the text was put
+pub record ListsJournal (journal old : List ℕ) (before r : ℕ) (new : List ℕ) (told : ℕ) : Type 0 where
+  pub answer : r ≡ listedOf (listingOf (runOf journal)) (length old) .number
+  pub bytes : new ≡ listedIn (listingOf (runOf journal)) old
+  pub size : told ≡ pick (eqb r 0) (length (listingOf (runOf journal))) before
+  pub short : length (listingOf (runOf journal)) ≤ listingMost

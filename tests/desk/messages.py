@@ -1,0 +1,170 @@
+#!/usr/bin/env python3
+"""messages.py PROGRAM FOLDER FAILING: runs `yearbook` as a trader would, rightly and wrongly, and compares both outputs with what is written here.
+
+FOLDER holds the journals j, field, undeclared and silent; FAILING is a library to preload under which the second read of standard input fails."""
+import os
+import pathlib
+import subprocess
+import sys
+import tempfile
+import threading
+import time
+
+PROGRAM, FOLDER, FAILING = sys.argv[1], pathlib.Path(sys.argv[2]), sys.argv[3]
+J = (FOLDER / "j.journal").read_bytes()
+USAGE = "usage: yearbook [replies | help] [FILE]\n"
+J_LISTING = """\
+U 1 9500 9500
+P 1 9500 9500
+D 1 3334
+D 2 3333
+D 3 3333
+S 1 334 7123560
+S 2 -667 -7123560
+S 3 0 0
+T 7123560 7123560 0
+R 16 15 1
+"""
+J_REPLIES = """\
+0 year 720 120 4: 0 accepted
+7 unit 1 1 1 17 0 0 0 0 0: 0 accepted
+33 test 1 0 0 4 4 2500 2500 2500 2500: 0 accepted
+56 availability 1 0 900 60 40 10: 0 accepted
+76 declare 1 1000 1000: 0 accepted
+87 declare 2 1000 1100: 0 accepted
+98 declare 3 1000 1000: 0 accepted
+109 fix 10000: 0 accepted
+115 commit 1 1 9000: 0 accepted
+123 commit 1 2 501: 11 above the producer's efficient offers
+131 release 1 1 1000: 0 accepted
+139 commit 1 2 1500: 0 accepted
+147 meter 1 900: 0 accepted
+154 meter 2 1200: 0 accepted
+161 meter 3 1000: 0 accepted
+168 close 890: 0 accepted
+172 end of journal
+"""
+J_SAID = "yearbook: 1 of 16 records refused, the first at byte 123: 11 above the producer's efficient offers\n"
+J_CUT_LISTING = "".join(line for line in J_LISTING.splitlines(True) if line[0] in "UPD") + "R 15 14 1\n"
+HELP = """\
+usage: yearbook [WORD] [FILE]
+Reads a journal of the firm capacity book, FILE or standard input, of at most 65536 bytes.
+  without a word  the listing: U units, P producers, D demands, S settlements, T totals, R records
+  replies         each record's place, call, number and meaning, and where the reading stopped
+  help            these words
+Standard error is empty exactly when the whole input was read, nothing was refused and all was written.
+"""
+cases = 0
+
+
+def expect(name, words, output, said, given=b"", closed=None, to=subprocess.PIPE, preload=None):
+    """both outputs of a run with these words on a given input, bytes or an open file"""
+    global cases
+    cases += 1
+    environment = dict(os.environ, LD_PRELOAD=preload) if preload else None
+    source = {"input": given} if isinstance(given, bytes) else {"stdin": given}
+    run = subprocess.run(
+        [PROGRAM, *words], stdout=to, stderr=subprocess.PIPE, env=environment, preexec_fn=closed and (lambda: os.close(closed)), **source
+    )
+    got = (run.stdout or b"").decode(), run.stderr.decode()
+    if got != (output, said):
+        sys.exit(f"test-desk: FAILED, {name}:\n{got[0]}--- standard error\n{got[1]}--- wanted\n{output}--- standard error\n{said}")
+
+
+def file(name):
+    return str(FOLDER / name)
+
+
+# a year as document 01 has it, with one refusal, in every way that it can be given
+expect("J on standard input", [], J_LISTING, J_SAID, J)
+expect("J as a file", [file("j.journal")], J_LISTING, J_SAID)
+expect("replies to J", ["replies"], J_REPLIES, J_SAID, J)
+expect("replies to J as a file", ["replies", file("j.journal")], J_REPLIES, J_SAID)
+piece, end = os.pipe()
+
+
+def in_pieces():
+    for at in range(0, len(J), 50):
+        os.write(end, J[at : at + 50])
+        time.sleep(0.02)
+    os.close(end)
+
+
+writer = threading.Thread(target=in_pieces)
+writer.start()
+expect("J in pieces", [], J_LISTING, J_SAID, os.fdopen(piece))
+writer.join()
+
+# nothing is said where all went well
+expect("a year without a refusal", [file("silent.journal")], "R 1 1 0\n", "")
+expect("no bytes", [], "R 0 0 0\n", "")
+expect("replies to no bytes", ["replies"], "0 end of journal\n", "")
+
+# a trader's commonest mistakes: a wrong field, a consumer not declared, a journal cut, a text given as a journal
+expect(
+    "a wrong field", ["replies", file("field.journal")],
+    "0 year 720 120 4: 0 accepted\n7 unit 70 1 1 17 0 0 0 0 0: 3 field outside its range\n33 end of journal\n",
+    "yearbook: 1 of 2 records refused, the first at byte 7: 3 field outside its range\n",
+)
+expect(
+    "a consumer not declared", ["replies", file("undeclared.journal")],
+    "0 year 720 120 4: 0 accepted\n7 declare 1 1000 1000: 0 accepted\n18 fix 10000: 0 accepted\n"
+    "24 meter 2 900: 10 consumer not declared\n31 meter 1 900: 0 accepted\n38 end of journal\n",
+    "yearbook: 1 of 5 records refused, the first at byte 24: 10 consumer not declared\n",
+)
+STOP = "yearbook: reading stopped at byte 168: 1 record cut short\n"
+expect("a journal cut", [], J_CUT_LISTING, J_SAID.replace("16", "15") + STOP, J[:-1])
+expect(
+    "replies to a journal cut", ["replies"], "".join(J_REPLIES.splitlines(True)[:15]) + "168 stop: 1 record cut short\n",
+    J_SAID.replace("16", "15") + STOP, J[:-1],
+)
+expect("a text", [file("j.txt")], "R 0 0 0\n", "yearbook: reading stopped at byte 0: 2 unknown mark\n")
+expect(
+    "replies to a text", ["replies", file("j.txt")], "0 stop: 2 unknown mark\n", "yearbook: reading stopped at byte 0: 2 unknown mark\n"
+)
+
+# the longest input, and a longer one
+FULL = J + b"CL\0\0" * ((65536 - len(J)) // 4)
+assert len(FULL) == 65536
+FULL_SAID = f"yearbook: {1 + (65536 - len(J)) // 4} of {16 + (65536 - len(J)) // 4} records refused, the first at byte 123: 11 above the producer's efficient offers\n"
+expect("65,536 bytes", [], J_LISTING.replace("R 16 15 1", f"R {16 + (65536 - len(J)) // 4} 15 {1 + (65536 - len(J)) // 4}"), FULL_SAID, FULL)
+LONG = "yearbook: input longer than 65536 bytes, nothing read\n"
+expect("65,537 bytes", [], "X\n", LONG, FULL + b"C")
+expect("replies to 65,537 bytes", ["replies"], "X\n", LONG, FULL + b"C")
+
+# words
+for word in ["help", "--help", "-h"]:
+    expect(word, [word], HELP, "")
+expect("an unknown word", ["replise", file("j.journal")], "", "yearbook: replise: unknown word\n" + USAGE)
+expect("an unknown option", ["--version"], "", "yearbook: --version: unknown word\n" + USAGE)
+expect("a word too many", ["replies", file("j.journal"), "more"], "", USAGE)
+expect("a mistyped word alone", ["replise"], "", "yearbook: replise: No such file or directory\n" + USAGE)
+expect("too long a word", ["a" * 5000], "", "yearbook: first argument: File name too long\n")
+expect("too long a file", ["replies", "a" * 5000], "", "yearbook: second argument: File name too long\n")
+
+# what cannot be read: nothing is printed, since a failed read is not the end of the input
+expect("a missing file", [file("missing")], "", f"yearbook: {file('missing')}: No such file or directory\n" + USAGE)
+expect("replies to a missing file", ["replies", file("missing")], "", f"yearbook: {file('missing')}: No such file or directory\n")
+expect("a folder", [str(FOLDER)], "", f"yearbook: {FOLDER}: Is a directory\n")
+with open(os.open(FOLDER, os.O_RDONLY), closefd=False) as folder:
+    expect("a folder on standard input", [], "", "yearbook: standard input: Is a directory\n", folder)
+expect("no standard input", [], "", "yearbook: standard input: Bad file descriptor\n", subprocess.DEVNULL, closed=0)
+for words in [], ["replies"]:
+    expect("a read that fails in the middle", words, "", "yearbook: standard input: Input/output error\n", J, preload=FAILING)
+
+# what cannot be written
+with open("/dev/full", "wb") as full:
+    for words, said in ([], J_SAID), (["replies"], J_SAID), (["help"], ""):
+        expect("a full disk", words, "", "yearbook: standard output: No space left on device\n" + said, J, to=full)
+expect("no standard output", [], "", "yearbook: standard output: Bad file descriptor\n" + J_SAID, J, closed=1)
+
+# the manual's line of shell: what is said is empty exactly where all went well
+LINE = 'said=$("$0" "$1" 2>&1 >"$2"); [ -z "$said" ]'
+with tempfile.TemporaryDirectory() as folder:
+    for journal, status in ("silent.journal", 0), ("j.journal", 1), ("missing", 1):
+        for shell in "sh", "bash":
+            cases += 1
+            run = subprocess.run([shell, "-c", LINE, PROGRAM, file(journal), folder + "/listing"])
+            if run.returncode != status:
+                sys.exit(f"test-desk: FAILED, {shell} on {journal}: status {run.returncode}")
+print(f"test-desk: passed, {cases} cases")
