@@ -1,5 +1,6 @@
 //! The ten calls and the forms of their records.
 
+use crate::field::{self, Field};
 use crate::plant::{Minutes, PowerTest};
 
 /// 01 "Journal records", year: NHRM, NHMD and NDHMD in hours.
@@ -96,31 +97,53 @@ pub enum Call<'a> {
     Close(u16),
 }
 
-/// 01 "Journal records": one row of the table, the mark, the call's name and the widths of its fields.
+/// 01 "Journal records": one row of the table, the mark, the call's name and its fields, a test's without its readings.
 #[derive(Debug)]
 pub struct Form {
     pub mark: [u8; 2],
     pub name: &'static str,
-    pub widths: &'static [usize],
+    pub fields: &'static [Field],
 }
 
 /// 01 "Journal records": one row of the table.
-const fn form(mark: [u8; 2], name: &'static str, widths: &'static [usize]) -> Form {
-    Form { mark, name, widths }
+const fn form(mark: [u8; 2], name: &'static str, fields: &'static [Field]) -> Form {
+    Form { mark, name, fields }
 }
+
+/// 01 "Journal records": the fields of a unit.
+const OF_UNIT: &[Field] = &[
+    field::UNIT,
+    field::PRODUCER,
+    field::KIND,
+    field::FLAGS,
+    field::PIC,
+    field::PPR,
+    field::E1,
+    field::E2,
+    field::CAP,
+];
+
+/// 01 "Journal records": the fields of a test, which its readings follow.
+const OF_TEST: &[Field] = &[field::UNIT, field::COMPONENT, field::ENDING, field::TC, field::COUNT];
+
+/// 01 "Journal records": the fields of an availability.
+const OF_AVAILABILITY: &[Field] = &[field::UNIT, field::COMPONENT, field::HD, field::HMP, field::HIF, field::HED];
+
+/// 01 "Journal records": the fields of commit and of release.
+const OF_CONTRACT: &[Field] = &[field::PRODUCER, field::CONSUMER, field::Q];
 
 /// 01 "Journal records": the table.
 pub static FORMS: [Form; 10] = [
-    form([0x59, 0x52], "year", &[2, 2, 1]),
-    form([0x55, 0x4E], "unit", &[1, 1, 1, 1, 4, 4, 4, 4, 4]),
-    form([0x54, 0x53], "test", &[1, 1, 1, 1, 1]),
-    form([0x41, 0x56], "availability", &[1, 1, 4, 4, 4, 4]),
-    form([0x44, 0x4D], "declare", &[1, 4, 4]),
-    form([0x46, 0x58], "fix", &[4]),
-    form([0x43, 0x4D], "commit", &[1, 1, 4]),
-    form([0x52, 0x4C], "release", &[1, 1, 4]),
-    form([0x4D, 0x54], "meter", &[1, 4]),
-    form([0x43, 0x4C], "close", &[2]),
+    form([0x59, 0x52], "year", &[field::NHRM, field::NHMD, field::NDHMD]),
+    form([0x55, 0x4E], "unit", OF_UNIT),
+    form([0x54, 0x53], "test", OF_TEST),
+    form([0x41, 0x56], "availability", OF_AVAILABILITY),
+    form([0x44, 0x4D], "declare", &[field::CONSUMER, field::D, field::A]),
+    form([0x46, 0x58], "fix", &[field::DMP]),
+    form([0x43, 0x4D], "commit", OF_CONTRACT),
+    form([0x52, 0x4C], "release", OF_CONTRACT),
+    form([0x4D, 0x54], "meter", &[field::CONSUMER, field::DREAL]),
+    form([0x43, 0x4C], "close", &[field::P]),
 ];
 
 impl Call<'_> {

@@ -3,6 +3,7 @@
 use std::fmt::Write;
 
 use crate::call::{Unit, Year, PIC_GIVEN, SUPPLY_REPORT};
+use crate::field::decimal;
 use crate::journal;
 use crate::listing;
 use crate::number::{reply, Number};
@@ -10,7 +11,6 @@ use crate::offer;
 use crate::plant::{Component, Minutes, PowerTest};
 use crate::range::{self, UNITS};
 use crate::record;
-use crate::text::decimal;
 
 /// 01 "The book": the one unit of the plant cases, its cap and its three components.
 #[derive(Default)]
@@ -181,7 +181,7 @@ fn hexadecimal(bytes: &[u8]) -> String {
 /// 01 "Journal records", "Numbered replies": each record's place and reply, the stop, then the listing.
 pub fn replies(journal: &[u8]) -> Vec<u8> {
     let mut lines = String::new();
-    let run = journal::run_with(journal, |place, number| {
+    let run = journal::run_with(journal, |place, _, number| {
         writeln!(lines, "{place} {number}").expect("lines are written to memory");
     });
     let stop = run.stop.map_or(0, |number| number as u8);

@@ -1,6 +1,7 @@
 //! The run over a journal.
 
 use crate::book::Book;
+use crate::call::Call;
 use crate::number::{reply, Number};
 use crate::record;
 
@@ -15,19 +16,19 @@ pub struct Run {
     pub stop: Option<Number>,
     /// The place of the stop, the journal's length without one.
     pub place: usize,
-    /// The place of one refused record if there is any.
-    pub refused_place: Option<usize>,
+    /// The place and the number of the first refused record if there is any.
+    pub first_refused: Option<(usize, Number)>,
 }
 
 /// 01 "Journal records": the run from a fresh book.
 pub fn run(journal: &[u8]) -> Run {
-    run_with(journal, |_, _| {})
+    run_with(journal, |_, _, _| {})
 }
 
-/// 01 "Journal records": the run from a fresh book, showing each record's place and the reply to its call.
-pub fn run_with(journal: &[u8], mut show: impl FnMut(usize, u8)) -> Run {
+/// 01 "Journal records": the run from a fresh book, showing each record's place, its call and the reply.
+pub fn run_with(journal: &[u8], mut show: impl FnMut(usize, &Call, u8)) -> Run {
     let mut run =
-        Run { book: Book::default(), read: 0, accepted: 0, refused: 0, stop: None, place: 0, refused_place: None };
+        Run { book: Book::default(), read: 0, accepted: 0, refused: 0, stop: None, place: 0, first_refused: None };
     while run.place < journal.len() {
         let (call, next) = match record::read(journal, run.place) {
             Ok(record) => record,
@@ -40,12 +41,12 @@ pub fn run_with(journal: &[u8], mut show: impl FnMut(usize, u8)) -> Run {
         run.read += 1;
         match result {
             Ok(()) => run.accepted += 1,
-            Err(_) => {
+            Err(number) => {
                 run.refused += 1;
-                run.refused_place = Some(run.place);
+                run.first_refused.get_or_insert((run.place, number));
             }
         }
-        show(run.place, reply(result));
+        show(run.place, &call, reply(result));
         run.place = next;
     }
     run

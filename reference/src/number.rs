@@ -43,3 +43,28 @@ pub fn reply(result: Result<(), Number>) -> u8 {
         Err(number) => number as u8,
     }
 }
+
+/// 01 "Numbered replies": what each number means in short words, from 0, an accepted call.
+const MEANINGS: [&str; 16] = [
+    "accepted",
+    "record cut short",
+    "unknown mark",
+    "field outside its range",
+    "not in this stage",
+    "unit already enrolled",
+    "unit not enrolled",
+    "component foreign to kind",
+    "count of readings against the full time",
+    "minutes that cannot be",
+    "consumer not declared",
+    "above the producer's efficient offers",
+    "above the pair's balance",
+    "weights sum to 0",
+    "adjusted demand above 3,000,000 kW",
+    "buffer too short",
+];
+
+/// 01 "Numbered replies": what a number means in short words.
+pub fn meaning(number: u8) -> &'static str {
+    MEANINGS[usize::from(number)]
+}

@@ -83,8 +83,8 @@ fn four<const N: usize>(b: &[u8; N], at: usize) -> u32 {
 pub fn bytes(call: &Call) -> Vec<u8> {
     let form = call.form();
     let mut record = form.mark.to_vec();
-    for (field, &width) in call.fields().iter().zip(form.widths) {
-        record.extend_from_slice(&field.to_le_bytes()[..width]);
+    for (value, field) in call.fields().iter().zip(form.fields) {
+        record.extend_from_slice(&value.to_le_bytes()[..field.width]);
     }
     if let Call::Test(test) = call {
         record.extend_from_slice(test.run.readings);

@@ -1,10 +1,14 @@
 #!/usr/bin/env python3
-"""compare.py PROGRAM REFERENCE STORED RANDOM DIFFERENT: compares the two programs' listings of every journal in STORED and RANDOM.
+"""compare.py PROGRAM REFERENCE STORED RANDOM DIFFERENT: compares what the program prints of every journal in STORED and RANDOM with what the
+second implementation prints, without a word and with the word `replies`, on standard output and on standard error.
 
-A journal that differs is printed as hex and copied to DIFFERENT. Prints how often each number was met in the random journals, and fails
+A journal is given as FILE to one of the two words and on standard input to the other; a stored one also the other way round. A journal that differs
+is named with the first line that differs and copied to DIFFERENT. Prints how often each number was met in the random journals, and fails
 if a journal differs or a number from 1 to 14 was never met."""
 import collections
 import concurrent.futures
+import io
+import itertools
 import os
 import pathlib
 import re
@@ -13,50 +17,92 @@ import subprocess
 import sys
 
 NUMBERS = range(1, 15)
-LIMIT = 65536
+BATCH = 50
 
 
-def output(words, journal):
-    with open(journal, "rb") as source:
-        return subprocess.run(words, stdin=source, stdout=subprocess.PIPE, check=True).stdout
+def expected(reference, journals):
+    """listing, replies and findings of each journal: the parts follow each other, each behind a line with its length"""
+    run = subprocess.run([reference, "desk", *journals], stdout=subprocess.PIPE, check=True)
+    source = io.BytesIO(run.stdout)
+    parts = [[source.read(int(source.readline())) for _ in range(3)] for _ in journals]
+    if source.read():
+        sys.exit("test-yearbook: FAILED, the second implementation printed more parts than journals have")
+    return parts
 
 
-def stored(program, reference, journal):
-    """whether the outputs are the same"""
-    return output([program], journal) == output([reference, "yearbook"], journal), []
+def printed(program, word, journal, as_file):
+    """the program's status, standard output and standard error"""
+    with open(os.devnull if as_file else journal, "rb") as source:
+        words = [program, *word, *([journal] if as_file else [])]
+        run = subprocess.run(words, stdin=source, stdout=subprocess.PIPE, stderr=subprocess.PIPE)
+    return run.returncode, run.stdout, run.stderr
 
 
-def random(program, reference, journal):
-    """the same with the numbers met: a line PLACE NUMBER for each record, then stop NUMBER PLACE, then the listing, whatever the length"""
-    replies = output([reference, "replies"], journal)
-    head, stop, listing = re.fullmatch(rb"((?:\d+ \d+\n)*)stop (\d+) \d+\n(.*)", replies, re.DOTALL).groups()
-    numbers = [int(line.split()[1]) for line in head.splitlines()] + [int(stop)]
-    same = output([program], journal) == listing if journal.stat().st_size <= LIMIT else stored(program, reference, journal)[0]
-    return same, numbers
+def first_difference(ours, theirs):
+    """the first line that differs, in both"""
+    for number, (our, their) in enumerate(itertools.zip_longest(ours.splitlines(True), theirs.splitlines(True)), 1):
+        if our != their:
+            return f"line {number} is {our!r} instead of {their!r}"
+    return None
+
+
+def differences(program, journal, as_file, listing, replies, findings):
+    """what differs, in words; `as_file` tells whether the listing, and not the replies, is asked with FILE"""
+    for word, file, output in (((), as_file, listing), (("replies",), not as_file, replies)):
+        asked = " ".join(["yearbook", *word, "FILE" if file else "<FILE"])
+        status, out, err = printed(program, word, journal, file)
+        if status != 0:
+            yield f"{asked}: status {status}"
+        for name, ours, theirs in (("standard output", out, output), ("standard error", err, findings)):
+            if ours != theirs:
+                yield f"{asked}: {name}: {first_difference(ours, theirs)}"
+
+
+def compare(program, reference, journals, both_ways):
+    """what differs, by journal, and how often each number was met"""
+    different, met = {}, collections.Counter()
+    for place, (journal, parts) in enumerate(zip(journals, expected(reference, journals))):
+        ways = (True, False) if both_ways else (place % 2 == 0,)
+        found = [line for way in ways for line in differences(program, journal, way, *parts)]
+        if found:
+            different[journal] = found
+        met.update(map(int, re.findall(rb": (\d+) ", parts[1])))
+    return different, met
+
+
+def batches(folder):
+    """the journals of a folder, some at a time"""
+    journals = sorted(str(journal) for journal in folder.iterdir())
+    return [journals[start:start + BATCH] for start in range(0, len(journals), BATCH)]
 
 
 def main():
     program, reference, *folders = sys.argv[1:]
-    stored_folder, random_folder, different = map(pathlib.Path, folders)
-    work = [(stored, j) for j in sorted(stored_folder.iterdir())] + [(random, j) for j in sorted(random_folder.iterdir())]
-    met, wrong = collections.Counter(), 0
-    with concurrent.futures.ThreadPoolExecutor(os.cpu_count()) as pool:
-        for (kind, journal), (same, numbers) in zip(work, pool.map(lambda w: w[0](program, reference, w[1]), work)):
-            met.update(numbers)
-            if not same:
+    stored, random, kept = map(pathlib.Path, folders)
+    work = [(True, batch) for batch in batches(stored)] + [(False, batch) for batch in batches(random)]
+    met, wrong, count = collections.Counter(), 0, collections.Counter()
+    with concurrent.futures.ProcessPoolExecutor(os.cpu_count()) as pool:
+        tasks = [pool.submit(compare, program, reference, batch, is_stored) for is_stored, batch in work]
+        for (is_stored, batch), task in zip(work, tasks):
+            different, numbers = task.result()
+            count[is_stored] += len(batch)
+            if not is_stored:
+                met.update(numbers)
+            for journal, found in different.items():
                 wrong += 1
-                shutil.copy(journal, different)
-                print(f"{journal} differs:\n{journal.read_bytes().hex()}")
+                shutil.copy(journal, kept)
+                print(f"{journal} differs:", *found, sep="\n  ")
     for number in NUMBERS:
         print(f"number {number:2}: {met[number]} times")
     missing = [number for number in NUMBERS if not met[number]]
     if missing:
         print("test-yearbook: FAILED, never met:", *missing)
     if wrong:
-        print(f"test-yearbook: FAILED, {wrong} journals differ, kept in {different}")
+        print(f"test-yearbook: FAILED, {wrong} journals differ, kept in {kept}")
     if missing or wrong:
         sys.exit(1)
-    print(f"test-yearbook: passed, {sum(k is stored for k, _ in work)} stored journals and {sum(k is random for k, _ in work)} random ones")
+    print(f"test-yearbook: passed, {count[True]} stored journals and {count[False]} random ones, listing, replies and standard error of each")
 
 
-main()
+if __name__ == "__main__":
+    main()

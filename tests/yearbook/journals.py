@@ -1,12 +1,14 @@
 #!/usr/bin/env python3
 """journals.py JOURNAL DIR: writes journals that no text stands for into DIR, named NAME.journal.
 
-Case J (JOURNAL) cut behind each byte, with unknown marks and with odd counts; the largest input of 65,536 bytes and one of
-65,537; a listing with every line there can be."""
+Case J (JOURNAL) cut behind each byte, with unknown marks and with odd counts; a text in place of a journal; fields that are all 0 and
+all 255; the largest inputs of 65,536 bytes, whole and cut, and longer ones; a listing with every line there can be, and the longest replies."""
 import struct
 import sys
 
 LIMIT = 65536
+# the bytes behind each mark, with no reading
+FIELDS = {b"YR": 5, b"UN": 24, b"TS": 5, b"AV": 18, b"DM": 9, b"FX": 4, b"CM": 6, b"RL": 6, b"MT": 5, b"CL": 2}
 
 
 def year():
@@ -64,6 +66,16 @@ def filled(start, record, size):
     return (start + record * ((size - len(start)) // len(record) + 1))[:size]
 
 
+def same_bytes(byte):
+    """each record with every byte of its fields the same; a test has as many readings as this byte counts"""
+    return b"".join(mark + byte * (size + (4 * byte[0] if mark == b"TS" else 0)) for mark, size in FIELDS.items())
+
+
+def refused_closes(meters):
+    """65,536 bytes that give the longest replies: closes that meet 14 behind so many readings, the last one cut or not"""
+    return filled(year() + declare(1, 1, 1) + fix(3000000) + meter(1, 2) * meters, close(2500), LIMIT)
+
+
 def journals(j):
     yield "empty", b""
     for n in range(1, len(j)):
@@ -72,12 +84,18 @@ def journals(j):
         yield f"mark-{mark.hex()}", j + mark + j
     yield "byte-behind", j + b"Y"
     yield "marks-first", b"\0\0" + j
+    yield "text", b"year 720 120 4\n"
+    yield "all-0", same_bytes(b"\0")
+    yield "all-255", same_bytes(b"\xff")
+    yield "refused-last", year() + close(1)
     yield "count-97", year() + unit(1, 1) + test(1, [1] * 97, tc=96) + declare(1, 1, 1)
     yield "count-255", year() + unit(1, 1) + test(1, [1] * 255, tc=96) + declare(1, 1, 1)
     yield "count-255-cut", year() + unit(1, 1) + test(1, [1] * 254, tc=96, count=255)
     yield "widest", widest()
     yield "largest", filled(widest()[:-4], meter(1, 1), LIMIT)
     yield "largest-whole", filled(year() + declare(1, 1, 1) + fix(1), meter(1, 1), LIMIT - (LIMIT - 24) % 7)
+    yield "longest-replies", refused_closes(1)
+    yield "longest-replies-whole", refused_closes(4)
     yield "too-long", filled(widest()[:-4], meter(1, 1), LIMIT + 1)
     yield "far-too-long", filled(year(), year(), 3 * LIMIT)
 

@@ -3,6 +3,7 @@
 use super::{listed, reply_lines, run, CASE_J};
 use crate::book::Stage;
 use crate::listing;
+use crate::number::Number;
 use crate::record;
 use crate::text;
 
@@ -33,7 +34,7 @@ fn the_run_of_case_j_returns_its_counts_and_places() {
     assert_eq!((run.read, run.accepted, run.refused), (16, 15, 1));
     assert_eq!((run.stop, run.place), (None, text::records(CASE_J).unwrap().len()));
     // The records before the refused commitment: 7 + 26 + 23 + 20 + 3 · 11 + 6 + 8 bytes.
-    assert_eq!(run.refused_place, Some(123));
+    assert_eq!(run.first_refused, Some((123, Number::Offers)));
     assert_eq!(run.book.producers[0].balances[..3], [8000, 1500, 0]);
 }
 

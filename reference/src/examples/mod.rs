@@ -1,6 +1,7 @@
 //! The examples of the papers, run through the whole book.
 
 mod case_j;
+mod desk;
 mod replies;
 mod stages;
 mod thirteen;
@@ -28,7 +29,7 @@ fn listed(text: &str) -> String {
 fn replies(text: &str) -> Vec<u8> {
     let journal = text::records(text).expect("an example is readable");
     let mut numbers = Vec::new();
-    journal::run_with(&journal, |_, number| numbers.push(number));
+    journal::run_with(&journal, |_, _, number| numbers.push(number));
     numbers
 }
 

@@ -2,6 +2,7 @@
 
 use super::{after_j, replies, run};
 use crate::book::Stage;
+use crate::number::Number;
 
 /// The replies to calls each made alone in a blank book: 3 out of range, 0 or 4 in range.
 fn refused_by_range(calls: &[&str]) -> Vec<bool> {
@@ -90,14 +91,14 @@ fn each_call_belongs_to_its_stage() {
 fn a_fix_that_met_13_leaves_the_book_gathering() {
     let run = run("year 720 120 4\nfix 1\n");
     assert_eq!(run.book.stage, Stage::Gathering);
-    assert_eq!((run.read, run.accepted, run.refused, run.refused_place), (2, 1, 1, Some(7)));
+    assert_eq!((run.read, run.accepted, run.refused, run.first_refused), (2, 1, 1, Some((7, Number::NoWeight))));
 }
 
 #[test]
 fn a_run_without_a_refusal_names_no_place() {
-    assert_eq!(run("").refused_place, None);
-    assert_eq!(run("year 720 120 4\n").refused_place, None);
-    assert_eq!(run("fix 1\n").refused_place, Some(0));
+    assert_eq!(run("").first_refused, None);
+    assert_eq!(run("year 720 120 4\n").first_refused, None);
+    assert_eq!(run("fix 1\n").first_refused, Some((0, Number::Stage)));
 }
 
 #[test]

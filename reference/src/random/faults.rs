@@ -38,12 +38,12 @@ fn out_of_range(draft: &mut Draft) {
         let mut bytes = draft.any_record();
         let (call, _) = record::read(&bytes, 0).expect("a drafted record is whole");
         let form = call.form();
-        let fields = if form.name == "test" { 4 } else { form.widths.len() };
+        let fields = if form.name == "test" { 4 } else { form.fields.len() };
         let field = draft.draw.between(0, fields as u64 - 1) as usize;
-        let at = 2 + form.widths[..field].iter().sum::<usize>();
+        let at = 2 + form.fields[..field].iter().map(|field| field.width).sum::<usize>();
         let one = [0, 3, 9, 17, 25, 32, 49, 65, 97, 64, 128, 255, 16, 1, 8];
         let four = [0, 1, MOST_KW + 1, 4_000_000_001, MOST_MINUTES + 1, u32::MAX];
-        match form.widths[field] {
+        match form.fields[field].width {
             1 => bytes[at] = draft.draw.pick(&one),
             2 => bytes[at..at + 2].copy_from_slice(&draft.draw.pick(&[0u16, 745, 2_501, u16::MAX]).to_le_bytes()),
             _ => bytes[at..at + 4].copy_from_slice(&draft.draw.pick(&four).to_le_bytes()),

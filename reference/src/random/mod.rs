@@ -145,7 +145,7 @@ mod tests {
         let mut met = [0; 15];
         let mut closed = 0;
         for number in 0..600 {
-            let run = run_with(&journal(1, number), |_, reply| met[usize::from(reply)] += 1);
+            let run = run_with(&journal(1, number), |_, _, reply| met[usize::from(reply)] += 1);
             if let Some(stop) = run.stop {
                 met[stop as usize] += 1;
             }

@@ -1,0 +1,74 @@
+//! What the program `yearbook` prints of an input that was read: the listing, the replies in words, and what standard error gets.
+
+use std::fmt::Write;
+
+use crate::journal::{self, Run};
+use crate::lines::write_call;
+use crate::listing::{self, MOST_BYTES};
+use crate::number::meaning;
+
+/// 01 "Journal records", count: a line of the replies shows no more readings of a test.
+const MOST_READINGS: usize = 96;
+
+/// What the program prints without a word, what with the word `replies`, and what standard error gets with both.
+#[derive(Debug, PartialEq, Eq)]
+pub struct Desk {
+    pub listing: Vec<u8>,
+    pub replies: String,
+    pub findings: String,
+}
+
+/// 01 "Journal in, listing out": all that is printed of an input, of which one byte above the limit is enough.
+pub fn desk(input: &[u8]) -> Desk {
+    if input.len() > MOST_BYTES {
+        let findings = format!("yearbook: input longer than {MOST_BYTES} bytes, nothing read\n");
+        return Desk { listing: b"X\n".to_vec(), replies: "X\n".to_string(), findings };
+    }
+    let mut replies = String::new();
+    let run = journal::run_with(input, |place, call, number| {
+        write!(replies, "{place} ").expect("replies are written to memory");
+        write_call(call, MOST_READINGS, &mut replies);
+        writeln!(replies, ": {number} {}", meaning(number)).expect("replies are written to memory");
+    });
+    replies.push_str(&end(&run));
+    Desk { listing: listing::listing(&run), replies, findings: findings(&run) }
+}
+
+/// 01 "Journal records": the last line of the replies, the journal's end or the stop.
+fn end(run: &Run) -> String {
+    let place = run.place;
+    match run.stop {
+        None => format!("{place} end of journal\n"),
+        Some(stop) => format!("{place} stop: {}\n", in_words(stop as u8)),
+    }
+}
+
+/// 01 "Journal records": how many records were refused and the first of them, and where the reading stopped.
+fn findings(run: &Run) -> String {
+    let mut lines = String::new();
+    if let Some((place, number)) = run.first_refused {
+        let Run { refused, read, .. } = run;
+        let first = in_words(number as u8);
+        lines += &format!("yearbook: {refused} of {read} records refused, the first at byte {place}: {first}\n");
+    }
+    if let Some(stop) = run.stop {
+        lines += &format!("yearbook: reading stopped at byte {}: {}\n", run.place, in_words(stop as u8));
+    }
+    lines
+}
+
+/// 01 "Numbered replies": a number and what it means.
+fn in_words(number: u8) -> String {
+    format!("{number} {}", meaning(number))
+}
+
+/// The three parts, listing, replies and findings, each behind a line with its length in bytes.
+pub fn parts(input: &[u8]) -> Vec<u8> {
+    let Desk { listing, replies, findings } = desk(input);
+    let mut parts = Vec::new();
+    for part in [listing, replies.into_bytes(), findings.into_bytes()] {
+        parts.extend_from_slice(format!("{}\n", part.len()).as_bytes());
+        parts.extend(part);
+    }
+    parts
+}
