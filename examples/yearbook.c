@@ -18,7 +18,7 @@ static int wrong(const char *name)
     return 1;
 }
 
-/* All bytes of a file, to be freed; NULL with errno set if it is not read to its end. */
+/* All bytes of a file, to be freed; NULL, with errno, if they are not read. */
 static uint8_t *read_whole(FILE *file, size_t *len)
 {
     size_t room = 65536;
