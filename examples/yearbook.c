@@ -67,7 +67,8 @@ int main(int argc, char **argv)
         fprintf(stderr, "yearbook: refused with number %" PRIu32 "\n", number);
         return 1;
     }
-    if (fwrite(listing, 1, (size_t)written, stdout) != written || fflush(stdout) != 0)
+    if (fwrite(listing, 1, (size_t)written, stdout) != written
+        || fflush(stdout) != 0)
         return wrong("standard output");
     return 0;
 }
