@@ -10,7 +10,11 @@
  * The amounts add up to T, each differs from the exact share by less than one
  * unit, and a weight of 0 gets 0.
  *
- * Link with libshare.a. Besides it only the C library is needed.
+ * Link with libshare.a, or by pkg-config:
+ *
+ *   cc .. $(pkg-config --cflags --libs share)
+ *
+ * Besides it only the C library is needed.
  */
 #ifndef SHARE_H
 #define SHARE_H
@@ -45,9 +49,9 @@ extern "C" {
  *                SHARE_WEIGHT_MAX; participant 1 comes first
  *   weights_len  the length of weights in bytes: 4 * n, n from 1 to
  *                SHARE_COUNT_MAX
- *   amounts      receives n amounts of 8 bytes each, low byte first, in the
- *                order of the weights
- *   amounts_len  the length of amounts in bytes: 8 * n or more
+ *   amounts      the buffer that receives n amounts of 8 bytes each, low byte
+ *                first, in the order of the weights
+ *   amounts_len  the length of this buffer in bytes: 8 * n or more
  *
  * Returns the first of these that applies:
  *
@@ -58,13 +62,18 @@ extern "C" {
  *   SHARE_SHORT   amounts_len is less than 8 * n
  *   SHARE_OK      the first 8 * n bytes of amounts hold the amounts
  *
- * Bytes of amounts behind the last amount are kept. Unless SHARE_OK is
- * returned, no byte is written. The weights are only read.
+ * On SHARE_OK the bytes of amounts behind the first 8 * n are kept; on any
+ * other answer no byte of amounts is written. The weights are only read.
  *
- * Each pointer must be valid for its length; any alignment will do. With
- * length 0 the pointer is not used and may be NULL: empty weights meet
- * SHARE_RANGE, and an empty amounts buffer never meets SHARE_OK. The two
- * buffers must not overlap.
+ * weights must point to weights_len bytes that can be read. It may be NULL
+ * where weights_len is 0: the answer is then SHARE_RANGE.
+ *
+ * amounts must point to amounts_len bytes that can be written. It may be NULL
+ * where amounts_len is 0: the answer is then SHARE_SHORT, or an earlier one of
+ * the list, and never SHARE_OK.
+ *
+ * Any other NULL is an invalid pointer: nothing tests it, and the behaviour is
+ * undefined. Both may have any alignment, and they must not overlap.
  *
  * There is no state and no allocation. Calls may run in parallel as long as
  * no thread writes to a buffer that another one's call was given.

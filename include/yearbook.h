@@ -20,7 +20,11 @@
  * in this order, numbers ascending. Power is in kW, money in cents: a charge
  * is negative, a credit positive. Each line ends with a line feed.
  *
- * Link with liblisting.a. Besides it only the C library is needed.
+ * Link with libyearbook.a, or by pkg-config:
+ *
+ *   cc .. $(pkg-config --cflags --libs yearbook)
+ *
+ * Besides it only the C library is needed.
  */
 #ifndef YEARBOOK_H
 #define YEARBOOK_H
@@ -43,24 +47,34 @@ extern "C" {
  * Runs the journal and writes its listing.
  *
  *   journal      the records, any bytes
- *   journal_len  their length in bytes, of any size
- *   listing      receives the listing
- *   listing_len  the length of listing in bytes
+ *   journal_len  the length of journal in bytes, of any size
+ *   listing      the buffer that receives the listing
+ *   listing_len  the length of this buffer in bytes
  *   written      receives the length of the listing in bytes
  *
  * Returns:
  *
- *   YEARBOOK_SHORT  listing_len is less than the length of the listing
- *   YEARBOOK_OK     the first *written bytes of listing hold the listing
+ *   YEARBOOK_SHORT  listing_len is less than the length of the listing; no
+ *                   byte of the buffer is written, and *written is left as it
+ *                   was
+ *   YEARBOOK_OK     the first *written bytes of the buffer hold the listing;
+ *                   the bytes behind them are kept
  *
- * Bytes of listing behind the text are kept. Unless YEARBOOK_OK is returned,
- * no byte of listing is written, and *written is left as it was. The journal is
- * only read.
+ * The journal is only read.
  *
- * Each pointer must be valid for its length; any alignment will do, but written
- * must be aligned for its type. With length 0 the pointer is not used and may
- * be NULL: an empty journal has the listing "R 0 0 0" and a line feed, and an
- * empty listing buffer meets YEARBOOK_SHORT. The buffers must not overlap.
+ * journal must point to journal_len bytes that can be read. It may be NULL
+ * where journal_len is 0: the listing is then "R 0 0 0" and a line feed.
+ *
+ * listing must point to listing_len bytes that can be written. It may be NULL
+ * where listing_len is 0: the answer is then YEARBOOK_SHORT, since no listing
+ * is empty.
+ *
+ * written must point to a uint64_t, aligned for its type; the other two may
+ * have any alignment. It must never be NULL, not even where the answer is
+ * YEARBOOK_SHORT: nothing tests it, and the behaviour is undefined, as with
+ * any invalid pointer.
+ *
+ * No two of the three may overlap.
  *
  * There is no state and no allocation; some 100 kB of stack are used. Calls
  * may run in parallel as long as no thread writes to a buffer that another

@@ -1,8 +1,8 @@
-//! Links liblisting.a, which `scripts/library listing` builds.
+//! Links libyearbook.a, which `scripts/library yearbook` builds.
 
 fn main() {
-    let folder = concat!(env!("CARGO_MANIFEST_DIR"), "/../../target/staticlib");
+    let folder = concat!(env!("CARGO_MANIFEST_DIR"), "/../../target/lib");
     println!("cargo:rustc-link-search=native={folder}");
-    println!("cargo:rustc-link-lib=static=listing");
-    println!("cargo:rerun-if-changed={folder}/liblisting.a");
+    println!("cargo:rustc-link-lib=static=yearbook");
+    println!("cargo:rerun-if-changed={folder}/libyearbook.a");
 }

@@ -15,6 +15,7 @@ def once(program):
     actions = [
         (os.POSIX_SPAWN_OPEN, 0, journal, os.O_RDONLY, 0),
         (os.POSIX_SPAWN_OPEN, 1, os.devnull, os.O_WRONLY, 0),
+        (os.POSIX_SPAWN_OPEN, 2, os.devnull, os.O_WRONLY, 0),
     ]
     start = time.perf_counter_ns()
     pid = os.posix_spawn(program[0], program, os.environ, file_actions=actions)

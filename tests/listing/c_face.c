@@ -1,8 +1,9 @@
 /*
  * Writes the listing of a journal through yearbook_list, after trying buffers
- * around the length that it takes: one byte short, exact, and with room to
- * spare. Ends with status 1 and a message where an answer, a length or a byte
- * is not what yearbook.h says.
+ * around the length that it takes: none, one byte short, exact, and with room
+ * to spare. An empty journal and an empty buffer are lent as NULL. Ends with
+ * status 1 and a message where an answer, a length or a byte is not what
+ * yearbook.h says.
  *
  * usage: c_face JOURNAL
  */
@@ -59,7 +60,8 @@ int main(int argc, char **argv)
 {
     expect(argc == 2, "usage: c_face JOURNAL");
     size_t size;
-    uint8_t *journal = read_file(argv[1], &size);
+    uint8_t *bytes = read_file(argv[1], &size);
+    const uint8_t *journal = size ? bytes : NULL;
 
     uint64_t length = UNTOLD;
     expect(yearbook_list(journal, size, whole, sizeof whole, &length) == YEARBOOK_OK, "the largest buffer was refused");
@@ -84,6 +86,6 @@ int main(int argc, char **argv)
     }
 
     expect(fwrite(whole, 1, (size_t)length, stdout) == length, "not written");
-    free(journal);
+    free(bytes);
     return 0;
 }

@@ -19,7 +19,7 @@ extern "C" {
         journal_len: usize,
         listing: *mut u8,
         listing_len: usize,
-        length: *mut u64,
+        written: *mut u64,
     ) -> u32;
 }
 
