@@ -58,13 +58,13 @@ cases = 0
 
 
 def expect(name, words, output, said, given=b"", closed=None, to=subprocess.PIPE, preload=None):
-    """both outputs of a run with these words on a given input, bytes or an open file"""
+    """both outputs of a run with these words on a given input, bytes or a descriptor"""
     global cases
     cases += 1
     environment = dict(os.environ, LD_PRELOAD=preload) if preload else None
     source = {"input": given} if isinstance(given, bytes) else {"stdin": given}
     run = subprocess.run(
-        [PROGRAM, *words], stdout=to, stderr=subprocess.PIPE, env=environment, preexec_fn=closed and (lambda: os.close(closed)), **source
+        [PROGRAM, *words], stdout=to, stderr=subprocess.PIPE, env=environment, preexec_fn=None if closed is None else lambda: os.close(closed), **source
     )
     got = (run.stdout or b"").decode(), run.stderr.decode()
     if got != (output, said):
@@ -92,7 +92,7 @@ def in_pieces():
 
 writer = threading.Thread(target=in_pieces)
 writer.start()
-expect("J in pieces", [], J_LISTING, J_SAID, os.fdopen(piece))
+expect("J in pieces", [], J_LISTING, J_SAID, piece)
 writer.join()
 
 # nothing is said where all went well
@@ -137,7 +137,7 @@ for word in ["help", "--help", "-h"]:
     expect(word, [word], HELP, "")
 expect("an unknown word", ["replise", file("j.journal")], "", "yearbook: replise: unknown word\n" + USAGE)
 expect("an unknown option", ["--version"], "", "yearbook: --version: unknown word\n" + USAGE)
-expect("a word too many", ["replies", file("j.journal"), "more"], "", USAGE)
+expect("an argument too many", ["replies", file("j.journal"), "more"], "", "yearbook: more than a word and a file\n" + USAGE)
 expect("a mistyped word alone", ["replise"], "", "yearbook: replise: No such file or directory\n" + USAGE)
 expect("too long a word", ["a" * 5000], "", "yearbook: first argument: File name too long\n")
 expect("too long a file", ["replies", "a" * 5000], "", "yearbook: second argument: File name too long\n")
@@ -146,8 +146,7 @@ expect("too long a file", ["replies", "a" * 5000], "", "yearbook: second argumen
 expect("a missing file", [file("missing")], "", f"yearbook: {file('missing')}: No such file or directory\n" + USAGE)
 expect("replies to a missing file", ["replies", file("missing")], "", f"yearbook: {file('missing')}: No such file or directory\n")
 expect("a folder", [str(FOLDER)], "", f"yearbook: {FOLDER}: Is a directory\n")
-with open(os.open(FOLDER, os.O_RDONLY), closefd=False) as folder:
-    expect("a folder on standard input", [], "", "yearbook: standard input: Is a directory\n", folder)
+expect("a folder on standard input", [], "", "yearbook: standard input: Is a directory\n", os.open(FOLDER, os.O_RDONLY))
 expect("no standard input", [], "", "yearbook: standard input: Bad file descriptor\n", subprocess.DEVNULL, closed=0)
 for words in [], ["replies"]:
     expect("a read that fails in the middle", words, "", "yearbook: standard input: Input/output error\n", J, preload=FAILING)

@@ -14,7 +14,8 @@ use Rattle.journal.specs.declared.outcome.Run.{Run}
 use Rattle.journal.specs.Run.{runOf}
 use Rattle.journal.proofs.Refusals.{naming}
 use Rattle.listing.specs.Listing.{mostInput}
-use Rattle.words.specs.Numbers.{bytes, atPlace}
+use Rattle.words.specs.Phrases.{bytes}
+use Rattle.words.specs.Numbers.{atPlace}
 use Rattle.desk.specs.Findings.{refusals, stopping, findingsOf, nothingRead, findingsFor}
 use Rattle.desk.specs.Promises.{Silent, SilentExactly}
 

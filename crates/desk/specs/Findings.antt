@@ -12,7 +12,8 @@ use Rattle.journal.specs.declared.outcome.Run.{Run}
 use Rattle.journal.specs.Run.{runOf}
 use Rattle.listing.specs.Listing.{listingMost, outputOf, mostInput}
 use Rattle.desk.specs.declared.findings.Sizes.{Sizes}
-use Rattle.words.specs.Numbers.{bytes, atPlace, placeMost}
+use Rattle.words.specs.Phrases.{bytes}
+use Rattle.words.specs.Numbers.{atPlace, placeMost}
 
 -- how many of the records read were refused, with place and number of the first
 unfoldable pub refusals : FirstRefused → ℕ → ℕ → List ℕ

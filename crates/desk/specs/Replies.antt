@@ -14,7 +14,8 @@ use Rattle.state.specs.State.{freshBook}
 use Rattle.book.specs.Step.{stepOf}
 use Rattle.text.specs.Text.{Puts, decimal, lineMost}
 use Rattle.desk.specs.declared.replies.Told.{Told}
-use Rattle.words.specs.Numbers.{bytes, said, saidMost}
+use Rattle.words.specs.Phrases.{bytes}
+use Rattle.words.specs.Numbers.{said, saidMost}
 use Rattle.words.specs.Calls.{callText, callMost}
 
 -- place, call, number and meaning

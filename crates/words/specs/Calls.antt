@@ -11,7 +11,7 @@ use Rattle.table.specs.Records.{CallName, nameOf, mostFields}
 use Rattle.table.specs.Records.{Year, Unit, Test, Availability, Declare, Fix, Commit, Release, Meter, Close}
 use Rattle.table.specs.Ranges.{fieldsOf}
 use Rattle.text.specs.Text.{decimal, joined, lineMost}
-use Rattle.words.specs.Numbers.{bytes}
+use Rattle.words.specs.Phrases.{bytes}
 
 -- the column Call of the table of records
 abbrev pub nameText : CallName → List ℕ

@@ -1,3 +1,4 @@
 -- Definitions of the words for numbers and calls.
+pub mod Phrases
 pub mod Numbers
 pub mod Calls

@@ -1,15 +1,9 @@
 -- The numbered replies in words.
 use mathlib.Core.List.{List, [], _∷_, _++_}
 use Prim.Native.Nat.{ℕ, _+_, _*_}
-use Prim.Native.Char.{code}
-use Prim.Native.String.{String, [] as none, _∷_ as _then_}
 use lib.ListN.{getD}
 use Rattle.text.specs.Text.{decimal, lineMost}
-
--- the bytes of a text
-unfoldable pub bytes : String → List ℕ
-bytes none = []
-bytes (letter then more) = code letter ∷ bytes more
+use Rattle.words.specs.Phrases.{bytes}
 
 -- the table of "Numbered replies" in short words, from 0 on
 unfoldable pub meanings : List (List ℕ)

@@ -4,7 +4,10 @@ ghost use mathlib.Core.Path.{_≡_};
 ghost use lib.ListN.{length};
 ghost use Rattle.table.specs.Records.{mostFields};
 ghost use Rattle.text.specs.Text.{Puts, lineMost};
+ghost use Rattle.words.specs.Phrases.{phraseMost, phraseOf};
 ghost use Rattle.words.specs.Calls.{callName, valueText, fieldText, fieldsIn, shownReadings, readingsIn, mostShown, callText, callMost};
+use crate::phrases::Phrase;
+use crate::phrases::put_phrase;
 use basis::number_at;
 use table::Call;
 use table::ConsumerCall;
@@ -14,32 +17,61 @@ use table::UnitCall;
 use table::fields_of;
 use text::put_byte;
 use text::put_decimal;
-use text::put_text;
 
 // The most readings that are shown: those of a test in range.
 const MOST_SHOWN: usize = quantities::GREATEST_COUNT as usize;
 
 // The name of a call.
-fn put_name(out: &mut [u8], at: usize, call: Call) -> usize
-    requires { ⌜ at + lineMost ≤ length (now out) ⌝ }
-    ensures { λ r. ⌜ Puts lineMost (callName call) (now (out .entry)) at r (now (out .exit)) ⌝ }
+fn name_of(call: Call) -> Phrase
+    ensures { λ r. ⌜ r ≡ phraseOf (callName call) ⌝ }
+    ensures { λ r. ⌜ r .length ≤ phraseMost ⌝ }
 {
     match call {
-        Call::Year { .. } => put_text(out, at, b"year"),
-        Call::Fix { .. } => put_text(out, at, b"fix"),
-        Call::Close { .. } => put_text(out, at, b"close"),
+        Call::Year { .. } => Phrase {
+            length: 4,
+            bytes: *b"year                                    ",
+        },
+        Call::Fix { .. } => Phrase {
+            length: 3,
+            bytes: *b"fix                                     ",
+        },
+        Call::Close { .. } => Phrase {
+            length: 5,
+            bytes: *b"close                                   ",
+        },
         Call::Unit { act, .. } => match act {
-            UnitCall::Enrol { .. } => put_text(out, at, b"unit"),
-            UnitCall::Test { .. } => put_text(out, at, b"test"),
-            UnitCall::Availability { .. } => put_text(out, at, b"availability"),
+            UnitCall::Enrol { .. } => Phrase {
+                length: 4,
+                bytes: *b"unit                                    ",
+            },
+            UnitCall::Test { .. } => Phrase {
+                length: 4,
+                bytes: *b"test                                    ",
+            },
+            UnitCall::Availability { .. } => Phrase {
+                length: 12,
+                bytes: *b"availability                            ",
+            },
         },
         Call::Consumer { act, .. } => match act {
-            ConsumerCall::Declare { .. } => put_text(out, at, b"declare"),
-            ConsumerCall::Meter { .. } => put_text(out, at, b"meter"),
+            ConsumerCall::Declare { .. } => Phrase {
+                length: 7,
+                bytes: *b"declare                                 ",
+            },
+            ConsumerCall::Meter { .. } => Phrase {
+                length: 5,
+                bytes: *b"meter                                   ",
+            },
         },
         Call::Contract { act, .. } => match act {
-            ContractCall::Commit { .. } => put_text(out, at, b"commit"),
-            ContractCall::Release { .. } => put_text(out, at, b"release"),
+            ContractCall::Commit { .. } => Phrase {
+                length: 6,
+                bytes: *b"commit                                  ",
+            },
+            ContractCall::Release { .. } => Phrase {
+                length: 7,
+                bytes: *b"release                                 ",
+            },
         },
     }
 }
@@ -109,7 +141,7 @@ pub fn put_call(out: &mut [u8], at: usize, call: Call, readings: &[u8]) -> usize
     requires { ⌜ at + callMost ≤ length (now out) ⌝ }
     ensures { λ r. ⌜ Puts callMost (callText call (now (readings .entry))) (now (out .entry)) at r (now (out .exit)) ⌝ }
 {
-    let first = put_name(out, at, call);
+    let first = put_phrase(out, at, name_of(call));
     let fields = fields_of(call);
     let form = fields.form;
     let widths = form.widths;

@@ -2,6 +2,7 @@
 // For our own crates and not for buyers, as `text` is: a function here requires that the buffer has room for what it puts.
 mod calls; // calls.rt: a call in words
 mod numbers; // numbers.rt: the numbered replies in words
+mod phrases; // phrases.rt: words of at most 40 bytes
 
 pub use calls::put_call;
 pub use numbers::put_at_place;

@@ -59,6 +59,12 @@ pub fn unknown(argument: &[u8]) {
     usage();
 }
 
+// More arguments than a word and a file.
+pub fn too_many() {
+    io::write_all(STDERR_FILENO, b"yearbook: more than a word and a file\n");
+    usage();
+}
+
 // The words, on standard output.
 pub fn help() {
     let _ = print(b"usage: yearbook [WORD] [FILE]\n")

@@ -5,6 +5,7 @@ mod output; // output.rt: what goes to standard output and standard error
 
 use arguments::Word;
 use arguments::help;
+use arguments::too_many;
 use arguments::unknown;
 use arguments::usage;
 use arguments::word_of;
@@ -58,14 +59,14 @@ fn main() {
                 answer(true, STDIN_FILENO, b"standard input");
                 return;
             }
+            if count > 3 {
+                too_many();
+                return;
+            }
             let mut second = io::buffer();
             let size = os::arg(2, &mut second);
             if os::errno() != 0 {
                 fail(b"second argument");
-                return;
-            }
-            if count > 3 {
-                usage();
                 return;
             }
             answer_file(true, &second[..size]);

@@ -2,7 +2,7 @@
 use native.Mathlib.Omega.{arith}
 use borrow.Author.Needs.{needs}
 use denote.Ref.{now}
-use Rattle.words.specs.Numbers.{bytes}
+use Rattle.words.specs.Phrases.{bytes}
 use Rattle.desk.proofs.Found.{finds-long, finds-run}
 use Rattle.desk.proofs.findings.put_desk.Statement.{statement}
 use Rattle.desk.proofs.findings.put_desk.Tie as tie

@@ -3,7 +3,7 @@ use native.Mathlib.Omega.{arith}
 use borrow.Author.Needs.{needs}
 use denote.Ref.{now}
 use Rattle.text.proofs.Putting.{puts-none, puts-within}
-use Rattle.words.specs.Numbers.{bytes}
+use Rattle.words.specs.Phrases.{bytes}
 use Rattle.desk.specs.Findings.{refusals}
 use Rattle.words.proofs.Pieces.{puts-more}
 use Rattle.desk.proofs.findings.put_refusals.Statement.{statement}
