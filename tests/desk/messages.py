@@ -1,7 +1,7 @@
 #!/usr/bin/env python3
 """messages.py PROGRAM FOLDER FAILING: runs `yearbook` as a trader would, rightly and wrongly, and compares both outputs with what is written here.
 
-FOLDER holds the journals j, field, undeclared and silent; FAILING is a library to preload under which the second read of standard input fails."""
+FOLDER holds the journals j, field, undeclared and silent, j as text and its listing; FAILING is a library to preload under which the second read of standard input fails."""
 import os
 import pathlib
 import subprocess
@@ -13,18 +13,7 @@ import time
 PROGRAM, FOLDER, FAILING = sys.argv[1], pathlib.Path(sys.argv[2]), sys.argv[3]
 J = (FOLDER / "j.journal").read_bytes()
 USAGE = "usage: yearbook [replies | help] [FILE]\n"
-J_LISTING = """\
-U 1 9500 9500
-P 1 9500 9500
-D 1 3334
-D 2 3333
-D 3 3333
-S 1 334 7123560
-S 2 -667 -7123560
-S 3 0 0
-T 7123560 7123560 0
-R 16 15 1
-"""
+J_LISTING = (FOLDER / "j.listing").read_text()
 J_REPLIES = """\
 0 year 720 120 4: 0 accepted
 7 unit 1 1 1 17 0 0 0 0 0: 0 accepted
