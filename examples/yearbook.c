@@ -1,5 +1,7 @@
 /*
- * Prints the listing of a journal, or says what is wrong.
+ * Prints the listing of a journal, or says where a file cannot be read or the
+ * listing not be written. What is wrong with the journal itself is told by the
+ * program: yearbook replies.
  *
  * usage: yearbook JOURNAL
  */

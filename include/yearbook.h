@@ -7,7 +7,7 @@
  * at the first record whose mark is unknown or which is cut short; what was
  * read before keeps its effect.
  *
- * The listing has one line for each figure of the book after the run:
+ * The listing has these lines, with the figures of the book after the run:
  *
  *   U unit offer efficient-offer       enrolled units, once the year is fixed
  *   P producer efficient-total sum     producers with a unit, and the sum of
@@ -60,6 +60,11 @@ extern "C" {
  *   YEARBOOK_OK     the first *written bytes of the buffer hold the listing;
  *                   the bytes behind them are kept
  *
+ * A refused record and a stop are no error of the call. Line R counts the
+ * refused records. A stop shows neither in the answer nor in the listing, since
+ * line R counts only what was read. The program tells both, of a journal of up
+ * to 65,536 bytes: yearbook replies.
+ *
  * The journal is only read.
  *
  * journal must point to journal_len bytes that can be read. It may be NULL
@@ -76,9 +81,9 @@ extern "C" {
  *
  * No two of the three may overlap.
  *
- * There is no state and no allocation; some 100 kB of stack are used. Calls
- * may run in parallel as long as no thread writes to a buffer that another
- * one's call was given.
+ * There is no state and no allocation; less than 100 kB of stack are used.
+ * Calls may run in parallel as long as no thread writes to a buffer that
+ * another one's call was given.
  */
 uint32_t yearbook_list(const uint8_t *journal, size_t journal_len,
                        uint8_t *listing, size_t listing_len,

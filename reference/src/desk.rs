@@ -5,7 +5,7 @@ use std::fmt::Write;
 use crate::journal::{self, Run};
 use crate::lines::write_call;
 use crate::listing::{self, MOST_BYTES};
-use crate::number::meaning;
+use crate::number::in_words;
 
 /// 01 "Journal records", count: a line of the replies shows no more readings of a test.
 const MOST_READINGS: usize = 96;
@@ -28,7 +28,7 @@ pub fn desk(input: &[u8]) -> Desk {
     let run = journal::run_with(input, |place, call, number| {
         write!(replies, "{place} ").expect("replies are written to memory");
         write_call(call, MOST_READINGS, &mut replies);
-        writeln!(replies, ": {number} {}", meaning(number)).expect("replies are written to memory");
+        writeln!(replies, ": {}", in_words(number)).expect("replies are written to memory");
     });
     replies.push_str(&end(&run));
     Desk { listing: listing::listing(&run), replies, findings: findings(&run) }
@@ -51,15 +51,10 @@ fn findings(run: &Run) -> String {
         let first = in_words(number as u8);
         lines += &format!("yearbook: {refused} of {read} records refused, the first at byte {place}: {first}\n");
     }
-    if let Some(stop) = run.stop {
-        lines += &format!("yearbook: reading stopped at byte {}: {}\n", run.place, in_words(stop as u8));
+    if let Some(stopped) = run.stopped() {
+        lines += &format!("yearbook: {stopped}\n");
     }
     lines
-}
-
-/// 01 "Numbered replies": a number and what it means.
-fn in_words(number: u8) -> String {
-    format!("{number} {}", meaning(number))
 }
 
 /// The three parts, listing, replies and findings, each behind a line with its length in bytes.

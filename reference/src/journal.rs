@@ -2,7 +2,7 @@
 
 use crate::book::Book;
 use crate::call::Call;
-use crate::number::{reply, Number};
+use crate::number::{in_words, reply, Number};
 use crate::record;
 
 /// 01 "Journal records": what the run returns.
@@ -18,6 +18,13 @@ pub struct Run {
     pub place: usize,
     /// The place and the number of the first refused record if there is any.
     pub first_refused: Option<(usize, Number)>,
+}
+
+impl Run {
+    /// 01 "Journal records": where and why the reading stopped, if it did, in words.
+    pub fn stopped(&self) -> Option<String> {
+        self.stop.map(|stop| format!("reading stopped at byte {}: {}", self.place, in_words(stop as u8)))
+    }
 }
 
 /// 01 "Journal records": the run from a fresh book.

@@ -4,7 +4,7 @@ use std::fmt::Write;
 
 use crate::call::Call;
 use crate::journal;
-use crate::number::meaning;
+use crate::number::in_words;
 
 /// 01 "Journal records": a call in words, its name and its fields, and for a test at most so many of its readings.
 pub fn write_call(call: &Call, most_readings: usize, text: &mut String) {
@@ -16,20 +16,25 @@ pub fn write_call(call: &Call, most_readings: usize, text: &mut String) {
     }
 }
 
+/// The lines of a journal, and where and why the reading stopped, if it did.
+#[derive(Debug, PartialEq, Eq)]
+pub struct Lines {
+    pub text: String,
+    pub stopped: Option<String>,
+}
+
 /// 01 "Journal records", "Numbered replies": a line for each record, its place and reply behind it as a comment, and one for a stop.
-pub fn lines(journal: &[u8]) -> String {
+pub fn lines(journal: &[u8]) -> Lines {
     let mut text = String::new();
     let run = journal::run_with(journal, |place, call, number| {
         write_call(call, usize::MAX, &mut text);
-        let comment = writeln!(text, " # at byte {place}: {number} {}", meaning(number));
-        comment.expect("text is written to memory");
+        writeln!(text, " # at byte {place}: {}", in_words(number)).expect("text is written to memory");
     });
-    if let Some(stop) = run.stop {
-        let (place, number) = (run.place, stop as u8);
-        let comment = writeln!(text, "# reading stopped at byte {place}: {number} {}", meaning(number));
-        comment.expect("text is written to memory");
+    let stopped = run.stopped();
+    if let Some(stopped) = &stopped {
+        writeln!(text, "# {stopped}").expect("text is written to memory");
     }
-    text
+    Lines { text, stopped }
 }
 
 #[cfg(test)]
@@ -49,8 +54,8 @@ mod tests {
                     availability 1 0 1 2 3 4\ndeclare 64 5 6\nfix 1\ncommit 1 2 3\nrelease 1 2 3\n\
                     meter 1 0\nclose 65535\n";
         let journal = records(text).unwrap();
-        assert_eq!(calls(&lines(&journal)), text);
-        assert_eq!(records(lines(&journal)).unwrap(), journal);
+        assert_eq!(calls(&lines(&journal).text), text);
+        assert_eq!(records(lines(&journal).text).unwrap(), journal);
     }
 
     #[test]
@@ -60,25 +65,28 @@ mod tests {
                         year 720 120 4 # at byte 6: 0 accepted\n\
                         fix 5 # at byte 13: 13 weights sum to 0\n\
                         test 2 0 0 4 1 7 # at byte 19: 6 unit not enrolled\n";
-        assert_eq!(lines(&journal), expected);
-        assert_eq!(lines(b""), "");
+        assert_eq!(lines(&journal), Lines { text: expected.to_string(), stopped: None });
+        assert_eq!(lines(b""), Lines { text: String::new(), stopped: None });
     }
 
     #[test]
-    fn a_stop_is_the_last_line() {
+    fn a_stop_is_the_last_line_and_is_told_apart() {
         let journal = records("year 720 120 4\nfix 5\n").unwrap();
         let year = "year 720 120 4 # at byte 0: 0 accepted\n";
+        let stopped = "reading stopped at byte 7: 1 record cut short".to_string();
         for length in 8..journal.len() {
-            assert_eq!(lines(&journal[..length]), format!("{year}# reading stopped at byte 7: 1 record cut short\n"));
+            let expected = Lines { text: format!("{year}# {stopped}\n"), stopped: Some(stopped.clone()) };
+            assert_eq!(lines(&journal[..length]), expected);
         }
-        assert_eq!(lines(&[0, 0]), "# reading stopped at byte 0: 2 unknown mark\n");
+        let stopped = "reading stopped at byte 0: 2 unknown mark".to_string();
+        assert_eq!(lines(&[0, 0]), Lines { text: format!("# {stopped}\n"), stopped: Some(stopped) });
     }
 
     #[test]
     fn every_reading_of_a_count_above_96_has_its_place() {
         let text = format!("test 1 0 0 96 255{}\n", " 4294967295".repeat(255));
         let journal = records(&text).unwrap();
-        assert_eq!(calls(&lines(&journal)), text);
+        assert_eq!(calls(&lines(&journal).text), text);
     }
 
     #[test]
@@ -86,7 +94,7 @@ mod tests {
         for number in 0..300 {
             let journal = random::journal(5, number);
             let place = journal::run(&journal).place;
-            assert_eq!(records(lines(&journal)).unwrap(), journal[..place]);
+            assert_eq!(records(lines(&journal).text).unwrap(), journal[..place]);
         }
     }
 }

@@ -2,10 +2,12 @@
 
 use std::fs::File;
 use std::io::{self, Read, Write};
+use std::os::fd::AsFd;
 use std::path::Path;
 use std::process::ExitCode;
 
 use reference::field::decimal;
+use reference::lines::Lines;
 use reference::listing::{self, MOST_BYTES};
 use reference::{cases, desk, lines, random, text};
 
@@ -16,49 +18,61 @@ const USAGE: &str =
 /// 01 "Journal in, listing out": the bytes from which the program sees that its input is too long.
 const ENOUGH: u64 = MOST_BYTES as u64 + 1;
 
-/// Runs the subcommand that the arguments name.
+/// What standard output gets, and a message if something is wrong all the same.
+struct Answer {
+    output: Vec<u8>,
+    message: Option<String>,
+}
+
+/// Runs the subcommand that the arguments name; each message is a line on standard error.
 fn main() -> ExitCode {
     let arguments: Vec<String> = std::env::args().skip(1).collect();
     let words: Vec<&str> = arguments.iter().map(String::as_str).collect();
-    match answer(&words).and_then(|output| write(&output).map_err(|error| format!("standard output: {error}"))) {
-        Ok(()) => ExitCode::SUCCESS,
-        Err(message) => {
-            eprintln!("{message}");
-            ExitCode::FAILURE
-        }
+    let alone = |message| Answer { output: Vec::new(), message: Some(message) };
+    let Answer { output, message } = answer(&words).unwrap_or_else(alone);
+    let unwritten = write(&output).err().map(|error| format!("standard output: {error}"));
+    let messages: Vec<String> = message.into_iter().chain(unwritten).collect();
+    messages.iter().for_each(|message| eprintln!("{message}"));
+    if messages.is_empty() {
+        ExitCode::SUCCESS
+    } else {
+        ExitCode::FAILURE
     }
 }
 
-/// Writes standard output, to the last byte.
+/// Writes standard output, to the last byte, as a file: `io::stdout` is content with a descriptor that cannot be written.
 fn write(output: &[u8]) -> io::Result<()> {
-    let mut target = io::stdout().lock();
-    target.write_all(output)?;
-    target.flush()
+    File::from(io::stdout().as_fd().try_clone_to_owned()?).write_all(output)
 }
 
-/// The output of one subcommand, or a message.
-fn answer(words: &[&str]) -> Result<Vec<u8>, String> {
-    match words {
-        ["yearbook"] => Ok(listing::yearbook(&input(ENOUGH)?)),
-        ["desk"] => Ok(desk::parts(&input(ENOUGH)?)),
+/// The answer of one subcommand, or a message alone.
+fn answer(words: &[&str]) -> Result<Answer, String> {
+    let output = match words {
+        ["yearbook"] => listing::yearbook(&input(ENOUGH)?),
+        ["desk"] => desk::parts(&input(ENOUGH)?),
         ["desk", files @ ..] => {
             let parts: Result<Vec<Vec<u8>>, String> =
                 files.iter().map(|name| Ok(desk::parts(&file(name, ENOUGH)?))).collect();
-            Ok(parts?.concat())
+            parts?.concat()
         }
-        ["plant"] => cases::plant(&input_text()?).map(String::into_bytes),
-        ["record"] => cases::records(&input(u64::MAX)?).map(String::into_bytes),
-        ["replies"] => Ok(cases::replies(&input(u64::MAX)?)),
-        ["text"] => text::records(input(u64::MAX)?),
-        ["lines"] => Ok(lines::lines(&input(u64::MAX)?).into_bytes()),
+        ["plant"] => cases::plant(&input_text()?)?.into_bytes(),
+        ["record"] => cases::records(&input(u64::MAX)?)?.into_bytes(),
+        ["replies"] => cases::replies(&input(u64::MAX)?),
+        ["text"] => text::records(input(u64::MAX)?)?,
+        ["lines"] => {
+            let Lines { text, stopped } = lines::lines(&input(u64::MAX)?);
+            let message = stopped.map(|stopped| format!("journal: {stopped}"));
+            return Ok(Answer { output: text.into_bytes(), message });
+        }
         ["random", seed, count, folder] => {
             let seed = decimal(seed).ok_or(USAGE)?;
             let count = decimal(count).ok_or(USAGE)?;
             random::write_journals(seed, count, Path::new(folder)).map_err(|error| error.to_string())?;
-            Ok(Vec::new())
+            Vec::new()
         }
-        _ => Err(USAGE.to_string()),
-    }
+        _ => return Err(USAGE.to_string()),
+    };
+    Ok(Answer { output, message: None })
 }
 
 /// The first `most` bytes of standard input, which is read to its end.

@@ -64,7 +64,7 @@ const MEANINGS: [&str; 16] = [
     "buffer too short",
 ];
 
-/// 01 "Numbered replies": what a number means in short words.
-pub fn meaning(number: u8) -> &'static str {
-    MEANINGS[usize::from(number)]
+/// 01 "Numbered replies": a number and what it means in short words.
+pub fn in_words(number: u8) -> String {
+    format!("{number} {}", MEANINGS[usize::from(number)])
 }

@@ -6,22 +6,42 @@ use crate::field::READING;
 /// What some editors put before the first line of a text.
 const BYTE_ORDER_MARK: &[u8] = &[0xEF, 0xBB, 0xBF];
 
+/// The two bytes of which a line's end has either, or both in this order.
+const CARRIAGE_RETURN: u8 = b'\r';
+const LINE_FEED: u8 = b'\n';
+
 /// 01 "Journal records": turns lines of names and decimal fields into records; the first line that is none is named.
 pub fn records(text: impl AsRef<[u8]>) -> Result<Vec<u8>, String> {
     let text = text.as_ref();
     let text = text.strip_prefix(BYTE_ORDER_MARK).unwrap_or(text);
     let mut journal = Vec::new();
-    for (place, line) in (1..).zip(text.split(|&byte| byte == b'\n')) {
+    for (place, line) in (1..).zip(lines_of(text)) {
         let record = record_of_line(line).map_err(|reason| format!("line {place}: {reason}"))?;
         journal.extend_from_slice(&record);
     }
     Ok(journal)
 }
 
+/// The lines of a text without their ends, of which a carriage return with a line feed behind it is one.
+fn lines_of(text: &[u8]) -> impl Iterator<Item = &[u8]> {
+    let before_line_feeds = text.split(|&byte| byte == LINE_FEED);
+    let before_ends = before_line_feeds.map(|part| part.strip_suffix(&[CARRIAGE_RETURN]).unwrap_or(part));
+    before_ends.flat_map(|part| part.split(|&byte| byte == CARRIAGE_RETURN))
+}
+
+/// A line as text; its first byte that is none, a control character other than tab or a byte that is not UTF-8, is named.
+fn text_of_line(line: &[u8]) -> Result<&str, String> {
+    let text = line.utf8_chunks().next().map_or("", |chunk| chunk.valid());
+    let control = text.find(|character: char| character.is_ascii_control() && character != '\t');
+    match line.get(control.unwrap_or(text.len())) {
+        Some(byte) => Err(format!("byte {byte} is no text")),
+        None => Ok(text),
+    }
+}
+
 /// 01 "Journal records": the record of one line, no bytes if it has no call; `#` starts a comment.
 fn record_of_line(line: &[u8]) -> Result<Vec<u8>, String> {
-    let line = std::str::from_utf8(line).map_err(|error| format!("byte {} is no text", line[error.valid_up_to()]))?;
-    let mut words = line.split('#').next().unwrap_or("").split_whitespace();
+    let mut words = text_of_line(line)?.split('#').next().unwrap_or("").split_whitespace();
     let Some(name) = words.next() else { return Ok(Vec::new()) };
     let form = FORMS.iter().find(|form| form.name == name).ok_or_else(|| no_such_call(name))?;
     record_of(form, &words.collect::<Vec<&str>>())
@@ -106,6 +126,28 @@ mod tests {
     }
 
     #[test]
+    fn each_end_of_a_line_counts_once() {
+        let plain = records("year 720 120 4\n\nfix 1\nclose 1\n").unwrap();
+        for end in ["\n", "\r\n", "\r"] {
+            let text = ["year 720 120 4", "", "fix 1", "close 1"].join(end);
+            assert_eq!(records(&text).unwrap(), plain);
+            assert_eq!(records(text.clone() + end).unwrap(), plain);
+            let message = "line 5: fix has 1 field, DMP; 0 are given";
+            assert_eq!(records([text.as_str(), "fix", "x"].join(end)).unwrap_err(), message);
+        }
+        for (text, line) in [("\r\r\nx", 3), ("\n\rx", 3), ("\r\n\rx", 3), ("\n\r\nx\r", 3), ("\r\n\r\n\n\r\rx", 6)] {
+            assert!(records(text).unwrap_err().starts_with(&format!("line {line}: x: no such call; ")), "{text:?}");
+        }
+    }
+
+    #[test]
+    fn a_comment_ends_with_its_line() {
+        for end in ["\n", "\r\n", "\r"] {
+            assert_eq!(records(format!("# a comment{end}fix 1")).unwrap(), records("fix 1").unwrap());
+        }
+    }
+
+    #[test]
     fn a_byte_order_mark_and_line_ends_of_two_bytes_are_taken() {
         let plain = records("year 720 120 4\n\nfix 1 # año\nclose 1").unwrap();
         assert_eq!(records("\u{FEFF}year 720 120 4\r\n\r\nfix 1 # año\r\nclose 1\r\n").unwrap(), plain);
@@ -122,6 +164,28 @@ mod tests {
         assert_eq!(records(b"fix 1 # \xC3\nfix 1\n").unwrap_err(), "line 1: byte 195 is no text");
         assert_eq!(records(b"fix x\n\xFF\n").unwrap_err(), "line 1: DMP: x is not a power in kW, 1 to 3000000");
         assert_eq!(records(b"\xFF\xFEf\0i\0x\0").unwrap_err(), "line 1: byte 255 is no text");
+    }
+
+    #[test]
+    fn a_control_character_is_no_text() {
+        for byte in (0..=31).chain([127]).filter(|byte| !b"\t\n\r".contains(byte)) {
+            let message = format!("line 2: byte {byte} is no text");
+            for line in [&[byte][..], &[b"fix 1", &[byte][..]].concat(), &[b"# a", &[byte][..], b"b"].concat()] {
+                assert_eq!(records([b"fix 1\n", line, b"\nfix\n"].concat()).unwrap_err(), message);
+            }
+        }
+        assert_eq!(records("\tfix\t1\t#\tone\n").unwrap(), records("fix 1").unwrap());
+        assert_eq!(records("fix 1 # \u{20}~\u{80}").unwrap(), records("fix 1").unwrap());
+    }
+
+    #[test]
+    fn the_first_byte_of_a_line_that_is_no_text_is_named() {
+        assert_eq!(records(b"fix 1 # \0\xFF").unwrap_err(), "line 1: byte 0 is no text");
+        assert_eq!(records(b"fix 1 # \xFF\0").unwrap_err(), "line 1: byte 255 is no text");
+        assert_eq!(records(b"fix 1 # \xC3\x1B").unwrap_err(), "line 1: byte 195 is no text");
+        assert_eq!(records(b"fix 1 # \xC3\xB1\x1B\x7F").unwrap_err(), "line 1: byte 27 is no text");
+        assert_eq!(records(b"conmit \x01\n\0").unwrap_err(), "line 1: byte 1 is no text");
+        assert_eq!(records(b"f\0i\0x\0\n\0").unwrap_err(), "line 1: byte 0 is no text");
     }
 
     #[test]

@@ -4,6 +4,7 @@
 FOLDER holds the journals j, field, undeclared and silent, j as text and its listing; FAILING is a library to preload under which the second read of standard input fails."""
 import os
 import pathlib
+import signal
 import subprocess
 import sys
 import tempfile
@@ -12,7 +13,7 @@ import time
 
 PROGRAM, FOLDER, FAILING = sys.argv[1], pathlib.Path(sys.argv[2]), sys.argv[3]
 J = (FOLDER / "j.journal").read_bytes()
-USAGE = "usage: yearbook [replies | help] [FILE]\n"
+USAGE = "usage: yearbook [replies] [FILE] | yearbook help\n"
 J_LISTING = (FOLDER / "j.listing").read_text()
 J_REPLIES = """\
 0 year 720 120 4: 0 accepted
@@ -35,18 +36,18 @@ J_REPLIES = """\
 """
 J_SAID = "yearbook: 1 of 16 records refused, the first at byte 123: 11 above the producer's efficient offers\n"
 J_CUT_LISTING = "".join(line for line in J_LISTING.splitlines(True) if line[0] in "UPD") + "R 15 14 1\n"
-HELP = """\
-usage: yearbook [WORD] [FILE]
+HELP = USAGE + """\
 Reads a journal of the firm capacity book, FILE or standard input, of at most 65536 bytes.
   without a word  the listing: U units, P producers, D demands, S settlements, T totals, R records
   replies         each record's place, call, number and meaning, and where the reading stopped
   help            these words
-Standard error is empty exactly when the whole input was read, nothing was refused and all was written.
+A journal holds binary records; scripts/journal of the sources makes them from lines of text.
+Where the program ends by itself, standard error is empty exactly when all was read, accepted and written.
 """
 cases = 0
 
 
-def expect(name, words, output, said, given=b"", closed=None, to=subprocess.PIPE, preload=None):
+def expect(name, words, output, said, given=b"", closed=None, to=subprocess.PIPE, preload=None, status=0):
     """both outputs of a run with these words on a given input, bytes or a descriptor"""
     global cases
     cases += 1
@@ -56,8 +57,8 @@ def expect(name, words, output, said, given=b"", closed=None, to=subprocess.PIPE
         [PROGRAM, *words], stdout=to, stderr=subprocess.PIPE, env=environment, preexec_fn=None if closed is None else lambda: os.close(closed), **source
     )
     got = (run.stdout or b"").decode(), run.stderr.decode()
-    if got != (output, said):
-        sys.exit(f"test-desk: FAILED, {name}:\n{got[0]}--- standard error\n{got[1]}--- wanted\n{output}--- standard error\n{said}")
+    if got != (output, said) or run.returncode != status:
+        sys.exit(f"test-desk: FAILED, {name}, status {run.returncode}:\n{got[0]}--- standard error\n{got[1]}--- wanted\n{output}--- standard error\n{said}")
 
 
 def file(name):
@@ -126,7 +127,9 @@ for word in ["help", "--help", "-h"]:
     expect(word, [word], HELP, "")
 expect("an unknown word", ["replise", file("j.journal")], "", "yearbook: replise: unknown word\n" + USAGE)
 expect("an unknown option", ["--version"], "", "yearbook: --version: unknown word\n" + USAGE)
-expect("an argument too many", ["replies", file("j.journal"), "more"], "", "yearbook: more than a word and a file\n" + USAGE)
+for words in ["replies", file("j.journal"), "more"], ["help", file("j.journal")], ["--help", "replies", "more"]:
+    expect("an argument too many", words, "", "yearbook: too many arguments\n" + USAGE)
+expect("three files", [file("j.journal"), "b", "c"], "", f"yearbook: {file('j.journal')}: unknown word\n" + USAGE)
 expect("a mistyped word alone", ["replise"], "", "yearbook: replise: No such file or directory\n" + USAGE)
 expect("too long a word", ["a" * 5000], "", "yearbook: first argument: File name too long\n")
 expect("too long a file", ["replies", "a" * 5000], "", "yearbook: second argument: File name too long\n")
@@ -143,11 +146,39 @@ for words in [], ["replies"]:
 # what cannot be written
 with open("/dev/full", "wb") as full:
     for words, said in ([], J_SAID), (["replies"], J_SAID), (["help"], ""):
-        expect("a full disk", words, "", "yearbook: standard output: No space left on device\n" + said, J, to=full)
-expect("no standard output", [], "", "yearbook: standard output: Bad file descriptor\n" + J_SAID, J, closed=1)
+        expect("a full disk", words, "", said + "yearbook: standard output: No space left on device\n", J, to=full)
+expect("no standard output", [], "", J_SAID + "yearbook: standard output: Bad file descriptor\n", J, closed=1)
 
-# the manual's line of shell: what is said is empty exactly where all went well
-LINE = 'said=$("$0" "$1" 2>&1 >"$2"); [ -z "$said" ]'
+# whoever reads leaves: the system ends the program, but what is wrong was said before
+for words in [], ["replies"]:
+    piece, end = os.pipe()
+    os.close(piece)
+    expect("a reader that leaves", words, "", J_SAID, J, to=end, status=-signal.SIGPIPE)
+    os.close(end)
+
+# the manual's table of mistakes: J without its refused line, changed
+K = J[:123] + J[131:]
+SAID = "yearbook: {} records refused, the first at byte {}\n"
+TABLE = [
+    ("declare 2 1000 4000000", K[:94] + (4000000).to_bytes(4, "little") + K[98:], SAID.format("3 of 15", "87: 3 field outside its range")),
+    ("no declare 3", K[:98] + K[109:], SAID.format("1 of 14", "142: 10 consumer not declared")),
+    ("the fix behind the first commit", K[:109] + K[115:123] + K[109:115] + K[123:], SAID.format("2 of 15", "109: 4 not in this stage")),
+    ("the first 100 bytes", K[:100], "yearbook: reading stopped at byte 98: 1 record cut short\n"),
+    ("the first 98 bytes, whole records", K[:98], ""),
+    (
+        "the 21st byte lost", K[:20] + K[21:],
+        SAID.format("1 of 2", "7: 3 field outside its range") + "yearbook: reading stopped at byte 33: 2 unknown mark\n",
+    ),
+]
+manual = pathlib.Path("docs/MANUAL.md").read_text()
+for name, journal, said in TABLE:
+    cases += 1
+    run = subprocess.run([PROGRAM], input=journal, stdout=subprocess.PIPE, stderr=subprocess.PIPE)
+    if run.stderr.decode() != said or not all(line in manual for line in said.splitlines()):
+        sys.exit(f"test-desk: FAILED, {name}: {run.stderr.decode()}, in the manual or not")
+
+# the manual's shell: what is said is empty, and the status 0, exactly where all went well
+LINE = 'if said=$("$0" "$1" 2>&1 >"$2") && [ -z "$said" ]; then exit 0; else exit 1; fi'
 with tempfile.TemporaryDirectory() as folder:
     for journal, status in ("silent.journal", 0), ("j.journal", 1), ("missing", 1):
         for shell in "sh", "bash":

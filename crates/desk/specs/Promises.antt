@@ -10,7 +10,7 @@ use Rattle.listing.specs.Listing.{mostInput}
 use Rattle.desk.specs.Replies.{replyLine, endLine, repliesOf}
 use Rattle.desk.specs.Findings.{findingsFor}
 
--- a line for each record, from its place, its call and the number of its reply
+-- a line for each record, from its place, its call and the number of its reply; there are as many places and numbers as calls
 unfoldable pub linesOf : List ℕ → List Event → List ℕ → List ℕ
 linesOf [] events numbers = []
 linesOf (place ∷ places) [] numbers = []

@@ -2,8 +2,8 @@
 use mathlib.Core.Bool.{Bool, true, false}
 use mathlib.Core.Path.{_≡_}
 use mathlib.Core.List.{List, [], _∷_, _++_}
-use Prim.Native.Nat.{ℕ, zero, suc, _+_, _*_, _≤_}
-use lib.Dec.{eqb}
+use Prim.Native.Nat.{ℕ, zero, suc, _+_, _*_, _≤_, _<_}
+use lib.Dec.{eqb, ltb}
 use lib.ListN.{length}
 use Rattle.basis.specs.Choice.{pick}
 use Rattle.table.specs.declared.calls.Call.{Call}
@@ -13,6 +13,8 @@ use Rattle.state.specs.declared.kept.Book.{Book}
 use Rattle.state.specs.State.{freshBook}
 use Rattle.book.specs.Step.{stepOf}
 use Rattle.text.specs.Text.{Puts, decimal, lineMost}
+use Rattle.listing.specs.Listing.{mostInput}
+use Rattle.desk.specs.declared.replies.Rest.{Rest}
 use Rattle.desk.specs.declared.replies.Told.{Told}
 use Rattle.words.specs.Phrases.{bytes}
 use Rattle.words.specs.Numbers.{said, saidMost}
@@ -78,14 +80,25 @@ linesFrom (suc most) s b at =
 unfoldable pub repliesOf : List ℕ → List ℕ
 repliesOf s = linesFrom (suc (length s)) s freshBook 0
 
+-- what the program prints of an input under the word `replies`: nothing of one that is too long, of which it prints the line X
+unfoldable pub repliesFor : List ℕ → List ℕ
+repliesFor input = let replies = repliesOf input in pick (ltb mostInput (length input)) [] replies
+
+-- the replies that are still to be told
+abbrev pub restOf : List ℕ → Rest → List ℕ
+restOf s rest = linesFrom (rest .left) s (rest .book) (rest .place)
+
+-- the next line of them, nothing where none is left
+unfoldable pub nextLine : List ℕ → Rest → List ℕ
+nextLine s rest = pick (eqb (rest .left) 0) [] (lineAt s (rest .book) (rest .place))
+
 -- the most bytes of a line
 abbrev pub replyMost : ℕ
 replyMost = callMost + (3 * lineMost + saidMost)
 
--- what putting a line answers and leaves in the buffer
-pub record Tells (s : List ℕ) (b : Book) (at : ℕ) (old : List ℕ) (r : Told) (new : List ℕ) : Type 0 where
-  pub line : Puts replyMost (lineAt s b at) old 0 (r .size) new
-  pub book : r .book ≡ bookBehind s b at
-  pub place : r .place ≡ placeBehind s at
-  pub last : r .«is_last» ≡ isLast s at
+-- what putting a line answers and leaves in the buffer: the line and the rest behind it are what was to be told, and less is left
+pub record Tells (s : List ℕ) (rest : Rest) (old : List ℕ) (r : Told) (new : List ℕ) : Type 0 where
+  pub line : Puts replyMost (nextLine s rest) old 0 (r .size) new
+  pub whole : restOf s rest ≡ nextLine s rest ++ restOf s (r .rest)
+  pub fewer : 0 < rest .left → r .rest .left < rest .left
   pub fits : r .size ≤ length new

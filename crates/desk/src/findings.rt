@@ -14,7 +14,7 @@ use text::put_text;
 use words::put_at_place;
 use words::put_figure;
 
-// The most bytes of the findings: two lines, of eleven parts as long as a line of the listing at most.
+// The most bytes of the findings: two lines, of sixteen parts in all, each at most as long as a line of the listing.
 pub const LONGEST_FINDINGS: usize = 16 * LONGEST_LINE;
 
 // The bytes of an input's output and of the findings.

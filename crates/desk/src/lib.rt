@@ -6,5 +6,7 @@ pub use findings::LONGEST_FINDINGS;
 pub use findings::Sizes;
 pub use findings::put_desk;
 pub use replies::LONGEST_REPLY;
+pub use replies::Rest;
 pub use replies::Told;
+pub use replies::all_replies;
 pub use replies::put_reply;

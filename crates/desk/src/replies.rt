@@ -1,10 +1,13 @@
 // The replies to a journal's records, line by line.
+ghost use mathlib.Core.Path.{_≡_};
 ghost use Prim.Native.Nat.{_+_, _≤_};
 ghost use lib.ListN.{length};
 ghost use Rattle.text.specs.Text.{Puts};
-ghost use Rattle.desk.specs.Replies.{replyLine, endLine, replyMost, Tells};
+ghost use Rattle.desk.specs.Replies.{replyLine, endLine, replyMost, restOf, repliesFor, Tells};
 use book::Book;
+use book::fresh;
 use book::step;
+use listing::MOST_INPUT;
 use quantities::GREATEST_COUNT;
 use record::Call;
 use record::Read;
@@ -19,15 +22,38 @@ use words::put_call;
 use words::put_figure;
 use words::put_said;
 
-// The most bytes of a line, whatever the record: its place, name, fields, readings and number, each as long as a line of the listing.
+// The most bytes of a line, whatever the record: its fields, its readings and seven parts more, each at most as long as a line of the listing.
 pub const LONGEST_REPLY: usize = (FIELDS + GREATEST_COUNT as usize + 7) * LONGEST_LINE;
 
-// The bytes of a line that was put, the book and the place for the next one, and whether there is none.
+// The replies that are still to be told: at most so many lines, from a place on, with the book that the calls before it have made.
+pub struct Rest {
+    pub left: usize,
+    pub place: usize,
+    pub book: Book,
+}
+
+// The bytes of the line that was put, and the replies behind it.
 pub struct Told {
     pub size: usize,
-    pub book: Book,
-    pub place: usize,
-    pub is_last: bool,
+    pub rest: Rest,
+}
+
+// All replies to an input, none where it is too long.
+pub fn all_replies(input: &[u8]) -> Rest
+    ensures { λ r. ⌜ restOf (now (input .entry)) r ≡ repliesFor (now (input .entry)) ⌝ }
+{
+    if MOST_INPUT < input.len() {
+        return Rest {
+            left: 0,
+            place: 0,
+            book: fresh(),
+        };
+    }
+    Rest {
+        left: input.len() + 1,
+        place: 0,
+        book: fresh(),
+    }
 }
 
 // The line of a record whose call was answered.
@@ -55,10 +81,16 @@ fn put_end(out: &mut [u8], place: usize, stop: u32) -> usize
     put_said(out, number, stop)
 }
 
-// The line of what stands at a place of the journal, with the book that the calls before it have made.
-pub fn put_reply(journal: &[u8], book: Book, place: usize, out: &mut [u8; LONGEST_REPLY]) -> Told
-    ensures { λ r. ⌜ Tells (now (journal .entry)) book place (now (out .entry)) r (now (out .exit)) ⌝ }
+// The next line of the replies, and what is behind it; nothing where none is left.
+pub fn put_reply(journal: &[u8], rest: Rest, out: &mut [u8; LONGEST_REPLY]) -> Told
+    ensures { λ r. ⌜ Tells (now (journal .entry)) rest (now (out .entry)) r (now (out .exit)) ⌝ }
 {
+    let left = rest.left;
+    if left == 0 {
+        return Told { size: 0, rest };
+    }
+    let place = rest.place;
+    let book = rest.book;
     let read = read_at(journal, place);
     let Read::Record {
         call,
@@ -69,9 +101,11 @@ pub fn put_reply(journal: &[u8], book: Book, place: usize, out: &mut [u8; LONGES
         let size = put_end(out, place, stop_number(read));
         return Told {
             size,
-            book,
-            place,
-            is_last: true,
+            rest: Rest {
+                left: 0,
+                place,
+                book,
+            },
         };
     };
     let part = readings_of(journal, readings, next);
@@ -80,8 +114,10 @@ pub fn put_reply(journal: &[u8], book: Book, place: usize, out: &mut [u8; LONGES
     let after = reply.book;
     Told {
         size,
-        book: after,
-        place: next,
-        is_last: false,
+        rest: Rest {
+            left: left - 1,
+            place: next,
+            book: after,
+        },
     }
 }

@@ -7,9 +7,8 @@ use Rattle.basis.specs.Choice.{pick}
 use Rattle.basis.specs.Numbers.{numberAt}
 use Rattle.quantities.specs.Limits.{greatestCount}
 use Rattle.table.specs.declared.calls.Call.{Call}
-use Rattle.table.specs.Records.{CallName, nameOf, mostFields}
+use Rattle.table.specs.Records.{CallName, nameOf, mostFields, formOf, partsOf}
 use Rattle.table.specs.Records.{Year, Unit, Test, Availability, Declare, Fix, Commit, Release, Meter, Close}
-use Rattle.table.specs.Ranges.{fieldsOf}
 use Rattle.text.specs.Text.{decimal, joined, lineMost}
 use Rattle.words.specs.Phrases.{bytes}
 
@@ -60,7 +59,7 @@ readingsIn readings = joined (readingAt readings) (shownReadings (length reading
 -- the call with the readings of its record
 unfoldable pub callText : Call → List ℕ → List ℕ
 callText c readings =
-    callName c ++ (fieldsIn (fieldsOf c .form .widths) (fieldsOf c .values) ++ readingsIn readings)
+    callName c ++ (fieldsIn (formOf (partsOf c .mark) .widths) (partsOf c .values) ++ readingsIn readings)
 
 abbrev pub callMost : ℕ
 callMost = (1 + mostFields + mostShown) * lineMost

@@ -48,7 +48,10 @@ pub fn word_of(argument: &[u8]) -> Word {
 
 // How the program is called, on standard error.
 pub fn usage() {
-    io::write_all(STDERR_FILENO, b"usage: yearbook [replies | help] [FILE]\n");
+    io::write_all(
+        STDERR_FILENO,
+        b"usage: yearbook [replies] [FILE] | yearbook help\n",
+    );
 }
 
 // An argument in a word's place that is none.
@@ -59,15 +62,15 @@ pub fn unknown(argument: &[u8]) {
     usage();
 }
 
-// More arguments than a word and a file.
+// More arguments than a word and a file, or some behind `help`.
 pub fn too_many() {
-    io::write_all(STDERR_FILENO, b"yearbook: more than a word and a file\n");
+    io::write_all(STDERR_FILENO, b"yearbook: too many arguments\n");
     usage();
 }
 
 // The words, on standard output.
 pub fn help() {
-    let _ = print(b"usage: yearbook [WORD] [FILE]\n")
+    let _ = print(b"usage: yearbook [replies] [FILE] | yearbook help\n")
         && print(
             b"Reads a journal of the firm capacity book, FILE or standard input, of at most 65536 bytes.\n",
         )
@@ -79,6 +82,9 @@ pub fn help() {
         )
         && print(b"  help            these words\n")
         && print(
-            b"Standard error is empty exactly when the whole input was read, nothing was refused and all was written.\n",
+            b"A journal holds binary records; scripts/journal of the sources makes them from lines of text.\n",
+        )
+        && print(
+            b"Where the program ends by itself, standard error is empty exactly when all was read, accepted and written.\n",
         );
 }

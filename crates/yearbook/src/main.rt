@@ -1,4 +1,4 @@
-// `yearbook [WORD] [FILE]`: words, reading and writing. What is printed of a journal is made in `desk`.
+// `yearbook [replies] [FILE] | yearbook help`: words, reading and writing. What is printed of a journal is made in `desk`.
 mod arguments; // arguments.rt: what the program is asked for
 mod input; // input.rt: the input, read whole
 mod output; // output.rt: what goes to standard output and standard error
@@ -52,7 +52,13 @@ fn main() {
         return;
     }
     match word_of(&first[..length]) {
-        Word::Help => help(),
+        Word::Help => {
+            if count > 2 {
+                too_many();
+                return;
+            }
+            help();
+        }
         Word::Unknown => unknown(&first[..length]),
         Word::Replies => {
             if count == 2 {

@@ -1,13 +1,13 @@
 // What goes to standard output, and what to standard error.
 use desk::LONGEST_FINDINGS;
 use desk::LONGEST_REPLY;
+use desk::all_replies;
 use desk::put_desk;
 use desk::put_reply;
 use libc::STDERR_FILENO;
 use libc::STDOUT_FILENO;
 use listing::LONGEST;
 use listing::MOST_INPUT;
-use state::fresh;
 
 // Says what failed, and why, in the system's words.
 pub fn fail(name: &[u8]) {
@@ -24,35 +24,31 @@ pub fn print(text: &[u8]) -> bool {
     is_written
 }
 
-// Each reply as a line on standard output. No record is empty, so that there are fewer records than bytes.
+// The replies on standard output, line by line.
 fn print_replies(input: &[u8]) {
     let mut line = [0u8; LONGEST_REPLY];
-    let mut book = fresh();
-    let mut place = 0;
-    let mut left = MOST_INPUT + 1;
-    while left > 0 {
-        let told = put_reply(input, book, place, &mut line);
+    let mut rest = all_replies(input);
+    while rest.left > 0 {
+        let told = put_reply(input, rest, &mut line);
         let size = told.size;
-        if !print(&line[..size]) || told.is_last {
+        if !print(&line[..size]) {
             return;
         }
-        book = told.book;
-        place = told.place;
-        left -= 1;
+        rest = told.rest;
     }
 }
 
-// The listing or the replies of an input, and what is found wrong with it.
+// What is found wrong with an input, and then its listing or the replies: who reads these may leave, as `head` does, and end the program.
 pub fn tell(is_replies: bool, input: &[u8]) {
     let mut output = [0u8; LONGEST];
     let mut findings = [0u8; LONGEST_FINDINGS];
     let sizes = put_desk(input, &mut output, &mut findings);
+    let found = sizes.findings;
+    io::write_all(STDERR_FILENO, &findings[..found]);
     if is_replies && input.len() <= MOST_INPUT {
         print_replies(input);
     } else {
         let size = sizes.output;
         print(&output[..size]);
     }
-    let found = sizes.findings;
-    io::write_all(STDERR_FILENO, &findings[..found]);
 }

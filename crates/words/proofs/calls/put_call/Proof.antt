@@ -1,6 +1,7 @@
 -- `words::put_call` meets its contract. Assumes nothing.
 use native.Mathlib.Omega.{arith}
 use borrow.Author.Needs.{needs}
+use Rattle.table.specs.Ranges.{fieldsOf}
 use Rattle.text.proofs.Putting.{puts-within}
 use Rattle.words.specs.Calls.{callName, callText}
 use Rattle.words.proofs.Pieces.{puts-more, puts-phrase}
@@ -8,7 +9,7 @@ use Rattle.words.proofs.calls.put_call.Statement.{statement}
 use Rattle.words.proofs.calls.put_call.Tie as tie
 
 returns : tie.Need-returns
-unfolding callText
+unfolding callText fieldsOf
 returns c =
     puts-within (omega arith)
     (puts-more (omega arith) (puts-phrase (callName (c .before .before .before .before .before .before .before .before .before .before .before .before .before .before .before .before .before .before .before .args .call)) (c .before .before .before .before .before .before .before .before .before .before .before .before .before .before .before .name-of .ensures .0) (c .before .before .before .before .before .before .before .before .before .before .before .before .before .before .put-phrase .ensures))

@@ -5,32 +5,27 @@ use lib.Seq.{length-take-le}
 use Rattle.yearbook.proofs.output.tell.Statement.{statement}
 use Rattle.yearbook.proofs.output.tell.Tie as tie
 
-array-share-prefix-output : tie.Need-array-share-prefix-output
-array-share-prefix-output c = c .before .put-desk .ensures .output-fits
+slice-aggregate-write-all : tie.Need-slice-aggregate-write-all
+slice-aggregate-write-all c =
+    let p = c .before .put-desk in
+    sym (length-take-le (p .result .findings) (p .last .1 .1 .0) (p .ensures .findings-fit))
 
 slice-aggregate-print : tie.Need-slice-aggregate-print
 slice-aggregate-print c =
-    let p = c .before .before .put-desk in
+    let p = c .before .before .before .before .put-desk in
     sym (length-take-le (p .result .output) (p .last .1 .0) (p .ensures .output-fits))
-
-array-share-prefix-findings : tie.Need-array-share-prefix-findings
-array-share-prefix-findings c = c .before .put-desk .ensures .findings-fit
-
-slice-aggregate-write-all : tie.Need-slice-aggregate-write-all
-slice-aggregate-write-all c =
-    let p = c .before .before .put-desk in
-    sym (length-take-le (p .result .findings) (p .last .1 .1 .0) (p .ensures .findings-fit))
 
 pub tell-spec : {M : Type 1} → statement M
 tell-spec =
     tie.close
     (tie.spec
     (λ c κs. search needs)
-    (λ c κs. search needs)
-    array-share-prefix-output
-    slice-aggregate-print
-    (λ c κs. search needs)
-    array-share-prefix-findings
+    (λ c. search needs)
     slice-aggregate-write-all
     (λ c κs. search needs)
+    (λ c κs. search needs)
+    (λ c. search needs)
+    slice-aggregate-print
+    (λ c κs. search needs)
+    (λ c. search needs)
     (λ c. search needs))
