@@ -1,6 +1,8 @@
 // What goes to standard output, and what to standard error.
+ghost use Prim.Native.Nat.{_<_};
 use desk::LONGEST_FINDINGS;
 use desk::LONGEST_REPLY;
+use desk::Rest;
 use desk::all_replies;
 use desk::put_desk;
 use desk::put_reply;
@@ -24,17 +26,25 @@ pub fn print(text: &[u8]) -> bool {
     is_written
 }
 
+// The next line of the replies on standard output; answers the rest behind it, none where the line was not written.
+fn print_next(input: &[u8], rest: Rest) -> Rest
+    ensures { λ r. ⌜ (0 < rest .left → r .left < rest .left) ⌝ }
+{
+    let mut line = [0u8; LONGEST_REPLY];
+    let told = put_reply(input, rest, &mut line);
+    let size = told.size;
+    let mut behind = told.rest;
+    if !print(&line[..size]) {
+        behind.left = 0;
+    }
+    behind
+}
+
 // The replies on standard output, line by line.
 fn print_replies(input: &[u8]) {
-    let mut line = [0u8; LONGEST_REPLY];
     let mut rest = all_replies(input);
     while rest.left > 0 {
-        let told = put_reply(input, rest, &mut line);
-        let size = told.size;
-        if !print(&line[..size]) {
-            return;
-        }
-        rest = told.rest;
+        rest = print_next(input, rest);
     }
 }
 
