@@ -1,5 +1,5 @@
 /*
- * yearbook.h: the listing of a journal.
+ * yearbook.h: the listing and the printed close of a journal.
  *
  * A journal is a sequence of records, each a call on the firm capacity book of
  * one year. The run takes them one after the other, from a fresh book: a call
@@ -20,6 +20,20 @@
  * in this order, numbers ascending. Power is in kW, money in cents: a charge
  * is negative, a credit positive. Each line ends with a line feed.
  *
+ * The printed close is there once the year is closed. It has a line of 36
+ * columns for each declared consumer, numbers ascending:
+ *
+ *   columns  1 to  3    the consumer
+ *   columns  5 to 11    its firm demand, as in line D
+ *   columns 13 to 20    its adjustment, as in line S
+ *   columns 22 to 36    its cents, as in line S
+ *
+ * Figures are right-aligned, a minus sign directly before the first digit; the
+ * columns between are blank. A page has a heading and then 50 consumers, the
+ * last one 1 to 50. The heading is PAGE, a blank, the number of the page from
+ * 1 on in 4 columns, right-aligned, and blanks to column 36. Each line ends
+ * with a line feed, the heading too.
+ *
  * Link with libyearbook.a, or by pkg-config:
  *
  *   cc .. $(pkg-config --cflags --libs yearbook)
@@ -39,9 +53,45 @@ extern "C" {
 /* No listing is longer: a buffer of this size is never too short. */
 #define YEARBOOK_LISTING_MAX 13192
 
-/* What yearbook_list returns. */
-#define YEARBOOK_OK 0     /* the listing was written */
-#define YEARBOOK_SHORT 15 /* the listing buffer is too short */
+/* No printed close is longer: 64 lines and 2 headings of 37 bytes each. */
+#define YEARBOOK_PAGE_MAX 2442
+
+/* What the functions return. */
+#define YEARBOOK_OK 0     /* the text was written */
+#define YEARBOOK_STAGE 4  /* yearbook_page alone: the year is not closed */
+#define YEARBOOK_SHORT 15 /* the buffer is too short for the text */
+
+/*
+ * Both functions take a journal, a buffer for the text, and a pointer to where
+ * the text's length in bytes is told. The text has no 0 byte at its end.
+ *
+ * On YEARBOOK_OK the bytes of the buffer behind the text are kept. On any
+ * other answer no byte of the buffer is written, and the length is left as it
+ * was. The journal is only read.
+ *
+ * A refused record and a stop are no error of the call. Line R of the listing
+ * counts the refused records. A stop has no answer of its own and shows in
+ * neither text, since line R counts only what was read. The program tells both,
+ * of a journal of up to 65,536 bytes: yearbook replies.
+ *
+ * journal must point to journal_len bytes that can be read. It may be NULL
+ * where journal_len is 0: the book is then a fresh one.
+ *
+ * The buffer, listing or page, must point to as many bytes that can be written
+ * as its length says. It may be NULL where this is 0: the answer is then never
+ * YEARBOOK_OK, since no text is empty.
+ *
+ * The pointer to the length, written or length, must be aligned for its type;
+ * the other two may have any alignment. It must never be NULL, not even where
+ * no length is told: nothing tests it, and the behaviour is undefined, as with
+ * any invalid pointer.
+ *
+ * No two of the three may overlap.
+ *
+ * There is no state and no allocation; less than 100 kB of stack are used.
+ * Calls may run in parallel as long as no thread writes to a buffer that
+ * another one's call was given.
+ */
 
 /*
  * Runs the journal and writes its listing.
@@ -54,40 +104,36 @@ extern "C" {
  *
  * Returns:
  *
- *   YEARBOOK_SHORT  listing_len is less than the length of the listing; no
- *                   byte of the buffer is written, and *written is left as it
- *                   was
- *   YEARBOOK_OK     the first *written bytes of the buffer hold the listing;
- *                   the bytes behind them are kept
+ *   YEARBOOK_SHORT  listing_len is less than the length of the listing
+ *   YEARBOOK_OK     the first *written bytes of the buffer hold the listing
  *
- * A refused record and a stop are no error of the call. Line R counts the
- * refused records. A stop shows neither in the answer nor in the listing, since
- * line R counts only what was read. The program tells both, of a journal of up
- * to 65,536 bytes: yearbook replies.
- *
- * The journal is only read.
- *
- * journal must point to journal_len bytes that can be read. It may be NULL
- * where journal_len is 0: the listing is then "R 0 0 0" and a line feed.
- *
- * listing must point to listing_len bytes that can be written. It may be NULL
- * where listing_len is 0: the answer is then YEARBOOK_SHORT, since no listing
- * is empty.
- *
- * written must point to a uint64_t, aligned for its type; the other two may
- * have any alignment. It must never be NULL, not even where the answer is
- * YEARBOOK_SHORT: nothing tests it, and the behaviour is undefined, as with
- * any invalid pointer.
- *
- * No two of the three may overlap.
- *
- * There is no state and no allocation; less than 100 kB of stack are used.
- * Calls may run in parallel as long as no thread writes to a buffer that
- * another one's call was given.
+ * The listing of an empty journal is "R 0 0 0" and a line feed.
  */
 uint32_t yearbook_list(const uint8_t *journal, size_t journal_len,
                        uint8_t *listing, size_t listing_len,
                        uint64_t *written);
+
+/*
+ * Runs the journal and writes its printed close.
+ *
+ *   journal      the records, any bytes
+ *   journal_len  the length of journal in bytes, of any size
+ *   page         the buffer that receives the printed close, all its pages
+ *   page_len     the length of this buffer in bytes
+ *   length       receives the length of the printed close in bytes
+ *
+ * Returns the first of these that applies:
+ *
+ *   YEARBOOK_STAGE  the run has not closed the year, whatever page_len is
+ *   YEARBOOK_SHORT  page_len is less than the length of the printed close
+ *   YEARBOOK_OK     the first *length bytes of the buffer hold it
+ *
+ * An empty journal closes no year, and neither does one whose close was refused
+ * or whose reading stopped before it: the answer is YEARBOOK_STAGE.
+ */
+uint32_t yearbook_page(const uint8_t *journal, size_t journal_len,
+                       uint8_t *page, size_t page_len,
+                       size_t *length);
 
 #ifdef __cplusplus
 }

@@ -8,6 +8,7 @@ use crate::journal;
 use crate::listing;
 use crate::number::{reply, Number};
 use crate::offer;
+use crate::page;
 use crate::plant::{Component, Minutes, PowerTest};
 use crate::range::{self, UNITS};
 use crate::record;
@@ -191,6 +192,15 @@ pub fn replies(journal: &[u8]) -> Vec<u8> {
     answers
 }
 
+/// 02 "A1": the number and the length of a journal's printed close, 0 where it is refused, then its text.
+pub fn page(journal: &[u8]) -> Vec<u8> {
+    let answer = match page::page(&journal::run(journal).book) {
+        Ok(text) => format!("0 {}\n{text}", text.len()),
+        Err(number) => format!("{} 0\n", number as u8),
+    };
+    answer.into_bytes()
+}
+
 #[cfg(test)]
 mod tests {
     use super::*;
@@ -235,5 +245,15 @@ mod tests {
         let cut = [&journal[..], b"Y"].concat();
         assert_eq!(replies(&cut), b"0 3\n6 0\n13 13\nstop 1 19\nR 3 1 2\n");
         assert_eq!(replies(b""), b"stop 0 0\nR 0 0 0\n");
+    }
+
+    #[test]
+    fn a_page_stands_behind_its_number_and_length() {
+        let journal = crate::text::records("year 720 120 4\ndeclare 64 7 7\nfix 10\nmeter 64 9\nclose 1\n").unwrap();
+        let expected = format!("0 74\nPAGE    1{}\n 64      10       -2               0\n", " ".repeat(27));
+        assert_eq!(page(&journal), expected.as_bytes());
+        assert_eq!(page(&[&journal[..], b"Y"].concat()), expected.as_bytes());
+        assert_eq!(page(&journal[..journal.len() - 1]), b"4 0\n");
+        assert_eq!(page(b""), b"4 0\n");
     }
 }

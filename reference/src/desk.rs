@@ -1,4 +1,4 @@
-//! What the program `yearbook` prints of an input that was read: the listing, the replies in words, and what standard error gets.
+//! What the program `yearbook` prints of an input that was read: listing, replies in words, printed close, and standard error.
 
 use std::fmt::Write;
 
@@ -6,23 +6,29 @@ use crate::journal::{self, Run};
 use crate::lines::write_call;
 use crate::listing::{self, MOST_BYTES};
 use crate::number::in_words;
+use crate::page;
 
 /// 01 "Journal records", count: a line of the replies shows no more readings of a test.
 const MOST_READINGS: usize = 96;
 
-/// What the program prints without a word, what with the word `replies`, and what standard error gets with both.
+/// What the program prints without a word, with `replies` and with `page`, and what standard error gets.
 #[derive(Debug, PartialEq, Eq)]
 pub struct Desk {
     pub listing: Vec<u8>,
     pub replies: String,
+    /// Standard error without a word and with `replies`.
     pub findings: String,
+    pub page: String,
+    /// Standard error with `page`.
+    pub page_findings: String,
 }
 
 /// 01 "Journal in, listing out": all that is printed of an input, of which one byte above the limit is enough.
 pub fn desk(input: &[u8]) -> Desk {
     if input.len() > MOST_BYTES {
         let findings = format!("yearbook: input longer than {MOST_BYTES} bytes, nothing read\n");
-        return Desk { listing: b"X\n".to_vec(), replies: "X\n".to_string(), findings };
+        let [replies, page] = ["X\n"; 2].map(str::to_string);
+        return Desk { listing: b"X\n".to_vec(), replies, findings: findings.clone(), page, page_findings: findings };
     }
     let mut replies = String::new();
     let run = journal::run_with(input, |place, call, number| {
@@ -31,7 +37,9 @@ pub fn desk(input: &[u8]) -> Desk {
         writeln!(replies, ": {}", in_words(number)).expect("replies are written to memory");
     });
     replies.push_str(&end(&run));
-    Desk { listing: listing::listing(&run), replies, findings: findings(&run) }
+    let findings = findings(&run);
+    let (page, page_findings) = printed(&run, &findings);
+    Desk { listing: listing::listing(&run), replies, findings, page, page_findings }
 }
 
 /// 01 "Journal records": the last line of the replies, the journal's end or the stop.
@@ -57,13 +65,24 @@ fn findings(run: &Run) -> String {
     lines
 }
 
-/// The three parts, listing, replies and findings, each behind a line with its length in bytes.
+/// 02 "A1": the page, or why there is none, said behind the other findings.
+fn printed(run: &Run, findings: &str) -> (String, String) {
+    match page::page(&run.book) {
+        Ok(page) => (page, findings.to_string()),
+        Err(number) => {
+            let refused = format!("yearbook: no page, the year is not closed: {}\n", in_words(number as u8));
+            (String::new(), format!("{findings}{refused}"))
+        }
+    }
+}
+
+/// The five parts, listing, replies, findings, page and findings with it, each behind a line with its length in bytes.
 pub fn parts(input: &[u8]) -> Vec<u8> {
-    let Desk { listing, replies, findings } = desk(input);
+    let Desk { listing, replies, findings, page, page_findings } = desk(input);
     let mut parts = Vec::new();
-    for part in [listing, replies.into_bytes(), findings.into_bytes()] {
+    for part in [&listing[..], replies.as_bytes(), findings.as_bytes(), page.as_bytes(), page_findings.as_bytes()] {
         parts.extend_from_slice(format!("{}\n", part.len()).as_bytes());
-        parts.extend(part);
+        parts.extend_from_slice(part);
     }
     parts
 }

@@ -11,6 +11,7 @@ pub mod lines;
 pub mod listing;
 pub mod number;
 pub mod offer;
+pub mod page;
 pub mod plant;
 pub mod random;
 pub mod range;

@@ -12,8 +12,8 @@ use reference::listing::{self, MOST_BYTES};
 use reference::{cases, desk, lines, random, text};
 
 /// The subcommands.
-const USAGE: &str =
-    "usage: reference yearbook | desk [FILE..] | plant | record | replies | text | lines | random SEED COUNT DIR";
+const USAGE: &str = "usage: reference yearbook | desk [FILE..] | page [FILE..] | plant | record | replies | text | \
+                     lines | random SEED COUNT DIR";
 
 /// 01 "Journal in, listing out": the bytes from which the program sees that its input is too long.
 const ENOUGH: u64 = MOST_BYTES as u64 + 1;
@@ -49,12 +49,8 @@ fn write(output: &[u8]) -> io::Result<()> {
 fn answer(words: &[&str]) -> Result<Answer, String> {
     let output = match words {
         ["yearbook"] => listing::yearbook(&input(ENOUGH)?),
-        ["desk"] => desk::parts(&input(ENOUGH)?),
-        ["desk", files @ ..] => {
-            let parts: Result<Vec<Vec<u8>>, String> =
-                files.iter().map(|name| Ok(desk::parts(&file(name, ENOUGH)?))).collect();
-            parts?.concat()
-        }
+        ["desk", files @ ..] => each(files, ENOUGH, desk::parts)?,
+        ["page", files @ ..] => each(files, u64::MAX, cases::page)?,
         ["plant"] => cases::plant(&input_text()?)?.into_bytes(),
         ["record"] => cases::records(&input(u64::MAX)?)?.into_bytes(),
         ["replies"] => cases::replies(&input(u64::MAX)?),
@@ -73,6 +69,15 @@ fn answer(words: &[&str]) -> Result<Answer, String> {
         _ => return Err(USAGE.to_string()),
     };
     Ok(Answer { output, message: None })
+}
+
+/// What is printed of standard input or, one behind the other, of the files that are named.
+fn each(files: &[&str], most: u64, printed: fn(&[u8]) -> Vec<u8>) -> Result<Vec<u8>, String> {
+    if files.is_empty() {
+        return Ok(printed(&input(most)?));
+    }
+    let parts: Result<Vec<Vec<u8>>, String> = files.iter().map(|name| Ok(printed(&file(name, most)?))).collect();
+    Ok(parts?.concat())
 }
 
 /// The first `most` bytes of standard input, which is read to its end.

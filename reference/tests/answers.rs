@@ -1,4 +1,4 @@
-//! The program's answers: standard output, standard error and the status of `text` and `lines`.
+//! The program's answers: standard output, standard error and the status of `text`, `lines` and `page`.
 
 use std::fs::File;
 use std::io::Write;
@@ -49,6 +49,14 @@ fn lines_of_a_journal_whose_reading_stops_have_a_message_beside_them() {
 fn a_text_gives_records_or_a_message() {
     answers(&["text"], b"year 720 120 4\r", YEAR, "", 0);
     answers(&["text"], b"year 720 120 4\r# \0\r", b"", "line 2: byte 0 is no text\n", 1);
+}
+
+#[test]
+fn pages_follow_each_other_file_by_file() {
+    answers(&["page"], YEAR, b"4 0\n", "", 0);
+    answers(&["page", "cases/j.txt", "/dev/null"], b"", b"4 0\n4 0\n", "", 0);
+    let missing = "cases/none: No such file or directory (os error 2)\n";
+    answers(&["page", "cases/j.txt", "cases/none"], b"", b"", missing, 1);
 }
 
 #[test]

@@ -13,7 +13,7 @@ import time
 
 PROGRAM, FOLDER, FAILING = sys.argv[1], pathlib.Path(sys.argv[2]), sys.argv[3]
 J = (FOLDER / "j.journal").read_bytes()
-USAGE = "usage: yearbook [replies] [FILE] | yearbook help\n"
+USAGE = "usage: yearbook [replies | page] [FILE] | yearbook help\n"
 J_LISTING = (FOLDER / "j.listing").read_text()
 J_REPLIES = """\
 0 year 720 120 4: 0 accepted
@@ -34,15 +34,21 @@ J_REPLIES = """\
 168 close 890: 0 accepted
 172 end of journal
 """
+J_PAGE = "PAGE    1" + " " * 27 + """
+  1    3334      334         7123560
+  2    3333     -667        -7123560
+  3    3333        0               0
+"""
 J_SAID = "yearbook: 1 of 16 records refused, the first at byte 123: 11 above the producer's efficient offers\n"
 J_CUT_LISTING = "".join(line for line in J_LISTING.splitlines(True) if line[0] in "UPD") + "R 15 14 1\n"
 HELP = USAGE + """\
 Reads a journal of the firm capacity book, FILE or standard input, of at most 65536 bytes.
   without a word  the listing: U units, P producers, D demands, S settlements, T totals, R records
   replies         each record's place, call, number and meaning, and where the reading stopped
+  page            the printed close: a line of 36 columns for each declared consumer, 50 to a page
   help            these words
 A journal holds binary records; scripts/journal of the sources makes them from lines of text.
-Where the program ends by itself, standard error is empty exactly when all was read, accepted and written.
+Where the program ends by itself, standard error is empty exactly when all was read and accepted, and all that was asked for was written.
 """
 cases = 0
 
@@ -70,6 +76,8 @@ expect("J on standard input", [], J_LISTING, J_SAID, J)
 expect("J as a file", [file("j.journal")], J_LISTING, J_SAID)
 expect("replies to J", ["replies"], J_REPLIES, J_SAID, J)
 expect("replies to J as a file", ["replies", file("j.journal")], J_REPLIES, J_SAID)
+expect("the page of J", ["page"], J_PAGE, J_SAID, J)
+expect("the page of J as a file", ["page", file("j.journal")], J_PAGE, J_SAID)
 piece, end = os.pipe()
 
 
@@ -89,6 +97,7 @@ writer.join()
 expect("a year without a refusal", [file("silent.journal")], "R 1 1 0\n", "")
 expect("no bytes", [], "R 0 0 0\n", "")
 expect("replies to no bytes", ["replies"], "0 end of journal\n", "")
+expect("the page of J without its refused record", ["page"], J_PAGE, "", J[:123] + J[131:])
 
 # a trader's commonest mistakes: a wrong field, a consumer not declared, a journal cut, a text given as a journal
 expect(
@@ -103,15 +112,25 @@ expect(
     "yearbook: 1 of 5 records refused, the first at byte 24: 10 consumer not declared\n",
 )
 STOP = "yearbook: reading stopped at byte 168: 1 record cut short\n"
-expect("a journal cut", [], J_CUT_LISTING, J_SAID.replace("16", "15") + STOP, J[:-1])
+J_CUT_SAID = J_SAID.replace("16", "15")
+expect("a journal cut", [], J_CUT_LISTING, J_CUT_SAID + STOP, J[:-1])
 expect(
     "replies to a journal cut", ["replies"], "".join(J_REPLIES.splitlines(True)[:15]) + "168 stop: 1 record cut short\n",
-    J_SAID.replace("16", "15") + STOP, J[:-1],
+    J_CUT_SAID + STOP, J[:-1],
 )
 expect("a text", [file("j.txt")], "R 0 0 0\n", "yearbook: reading stopped at byte 0: 2 unknown mark\n")
 expect(
     "replies to a text", ["replies", file("j.txt")], "0 stop: 2 unknown mark\n", "yearbook: reading stopped at byte 0: 2 unknown mark\n"
 )
+
+# no page of a year that is not closed, and what else is wrong is said before
+NO_PAGE = "yearbook: no page, the year is not closed: 4 not in this stage\n"
+expect("the page of J without its close", ["page"], "", J_CUT_SAID + NO_PAGE, J[:-4])
+expect("the page of a journal cut", ["page"], "", J_CUT_SAID + STOP + NO_PAGE, J[:-1])
+expect("the page of J and a part of a record", ["page"], J_PAGE, J_SAID + STOP.replace("168", "172"), J + b"C")
+expect("the page of no bytes", ["page"], "", NO_PAGE)
+expect("the page of a year without a refusal", ["page", file("silent.journal")], "", NO_PAGE)
+expect("the page of a text", ["page", file("j.txt")], "", "yearbook: reading stopped at byte 0: 2 unknown mark\n" + NO_PAGE)
 
 # the longest input, and a longer one
 FULL = J + b"CL\0\0" * ((65536 - len(J)) // 4)
@@ -121,36 +140,42 @@ expect("65,536 bytes", [], J_LISTING.replace("R 16 15 1", f"R {16 + (65536 - len
 LONG = "yearbook: input longer than 65536 bytes, nothing read\n"
 expect("65,537 bytes", [], "X\n", LONG, FULL + b"C")
 expect("replies to 65,537 bytes", ["replies"], "X\n", LONG, FULL + b"C")
+expect("the page of 65,536 bytes", ["page"], J_PAGE, FULL_SAID, FULL)
+expect("the page of 65,537 bytes", ["page"], "X\n", LONG, FULL + b"C")
 
 # words
 for word in ["help", "--help", "-h"]:
     expect(word, [word], HELP, "")
-expect("an unknown word", ["replise", file("j.journal")], "", "yearbook: replise: unknown word\n" + USAGE)
+for word in "replise", "pages":
+    expect("an unknown word", [word, file("j.journal")], "", f"yearbook: {word}: unknown word\n" + USAGE)
+    expect("a mistyped word alone", [word], "", f"yearbook: {word}: No such file or directory\n" + USAGE)
 expect("an unknown option", ["--version"], "", "yearbook: --version: unknown word\n" + USAGE)
-for words in ["replies", file("j.journal"), "more"], ["help", file("j.journal")], ["--help", "replies", "more"]:
+for words in ["replies", file("j.journal"), "more"], ["page", file("j.journal"), "more"], ["help", file("j.journal")], ["--help", "replies", "more"]:
     expect("an argument too many", words, "", "yearbook: too many arguments\n" + USAGE)
 expect("three files", [file("j.journal"), "b", "c"], "", f"yearbook: {file('j.journal')}: unknown word\n" + USAGE)
-expect("a mistyped word alone", ["replise"], "", "yearbook: replise: No such file or directory\n" + USAGE)
 expect("too long a word", ["a" * 5000], "", "yearbook: first argument: File name too long\n")
-expect("too long a file", ["replies", "a" * 5000], "", "yearbook: second argument: File name too long\n")
+for word in "replies", "page":
+    expect("too long a file", [word, "a" * 5000], "", "yearbook: second argument: File name too long\n")
 
 # what cannot be read: nothing is printed, since a failed read is not the end of the input
 expect("a missing file", [file("missing")], "", f"yearbook: {file('missing')}: No such file or directory\n" + USAGE)
-expect("replies to a missing file", ["replies", file("missing")], "", f"yearbook: {file('missing')}: No such file or directory\n")
+for word in "replies", "page":
+    expect("a missing file behind a word", [word, file("missing")], "", f"yearbook: {file('missing')}: No such file or directory\n")
 expect("a folder", [str(FOLDER)], "", f"yearbook: {FOLDER}: Is a directory\n")
 expect("a folder on standard input", [], "", "yearbook: standard input: Is a directory\n", os.open(FOLDER, os.O_RDONLY))
 expect("no standard input", [], "", "yearbook: standard input: Bad file descriptor\n", subprocess.DEVNULL, closed=0)
-for words in [], ["replies"]:
+for words in [], ["replies"], ["page"]:
     expect("a read that fails in the middle", words, "", "yearbook: standard input: Input/output error\n", J, preload=FAILING)
 
 # what cannot be written
 with open("/dev/full", "wb") as full:
-    for words, said in ([], J_SAID), (["replies"], J_SAID), (["help"], ""):
+    for words, said in ([], J_SAID), (["replies"], J_SAID), (["page"], J_SAID), (["help"], ""):
         expect("a full disk", words, "", said + "yearbook: standard output: No space left on device\n", J, to=full)
-expect("no standard output", [], "", J_SAID + "yearbook: standard output: Bad file descriptor\n", J, closed=1)
+for words in [], ["page"]:
+    expect("no standard output", words, "", J_SAID + "yearbook: standard output: Bad file descriptor\n", J, closed=1)
 
 # whoever reads leaves: the system ends the program, but what is wrong was said before
-for words in [], ["replies"]:
+for words in [], ["replies"], ["page"]:
     piece, end = os.pipe()
     os.close(piece)
     expect("a reader that leaves", words, "", J_SAID, J, to=end, status=-signal.SIGPIPE)
@@ -165,15 +190,16 @@ TABLE = [
     ("the fix behind the first commit", K[:109] + K[115:123] + K[109:115] + K[123:], SAID.format("2 of 15", "109: 4 not in this stage")),
     ("the first 100 bytes", K[:100], "yearbook: reading stopped at byte 98: 1 record cut short\n"),
     ("the first 98 bytes, whole records", K[:98], ""),
+    ("a page before the close", K[:-4], NO_PAGE, "page"),
     (
         "the 21st byte lost", K[:20] + K[21:],
         SAID.format("1 of 2", "7: 3 field outside its range") + "yearbook: reading stopped at byte 33: 2 unknown mark\n",
     ),
 ]
 manual = pathlib.Path("docs/MANUAL.md").read_text()
-for name, journal, said in TABLE:
+for name, journal, said, *words in TABLE:
     cases += 1
-    run = subprocess.run([PROGRAM], input=journal, stdout=subprocess.PIPE, stderr=subprocess.PIPE)
+    run = subprocess.run([PROGRAM, *words], input=journal, stdout=subprocess.PIPE, stderr=subprocess.PIPE)
     if run.stderr.decode() != said or not all(line in manual for line in said.splitlines()):
         sys.exit(f"test-desk: FAILED, {name}: {run.stderr.decode()}, in the manual or not")
 

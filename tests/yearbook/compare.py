@@ -1,10 +1,11 @@
 #!/usr/bin/env python3
 """compare.py PROGRAM REFERENCE STORED RANDOM DIFFERENT: compares what the program prints of every journal in STORED and RANDOM with what the
-second implementation prints, without a word and with the word `replies`, on standard output and on standard error.
+second implementation prints, without a word and with the words `replies` and `page`, on standard output and on standard error.
 
-A journal is given as FILE to one of the two words and on standard input to the other; a stored one also the other way round. A journal that differs
-is named with the first line that differs and copied to DIFFERENT. Prints how often each number was met in the random journals, and fails
-if a journal differs or a number from 1 to 14 was never met."""
+A journal is given as FILE and on standard input in turn, from word to word; a stored one also the other way round. A journal that differs is
+named with the first line that differs and copied to DIFFERENT. Prints how often each number was met in the random journals, and how many of them
+have a page, have two, and have none, refused with 4; fails if a journal differs, a number from 1 to 14 was never met, or one of these three never
+occurred."""
 import collections
 import concurrent.futures
 import io
@@ -18,13 +19,14 @@ import sys
 
 NUMBERS = range(1, 15)
 BATCH = 50
+PAGES = "a page", "two pages", "a page refused with 4"
 
 
 def expected(reference, journals):
-    """listing, replies and findings of each journal: the parts follow each other, each behind a line with its length"""
+    """listing, replies, findings, page and findings with it of each journal: the parts follow each other, each behind a line with its length"""
     run = subprocess.run([reference, "desk", *journals], stdout=subprocess.PIPE, check=True)
     source = io.BytesIO(run.stdout)
-    parts = [[source.read(int(source.readline())) for _ in range(3)] for _ in journals]
+    parts = [[source.read(int(source.readline())) for _ in range(5)] for _ in journals]
     if source.read():
         sys.exit("test-yearbook: FAILED, the second implementation printed more parts than journals have")
     return parts
@@ -46,20 +48,30 @@ def first_difference(ours, theirs):
     return None
 
 
-def differences(program, journal, as_file, listing, replies, findings):
-    """what differs, in words; `as_file` tells whether the listing, and not the replies, is asked with FILE"""
-    for word, file, output in (((), as_file, listing), (("replies",), not as_file, replies)):
+def differences(program, journal, as_file, listing, replies, findings, page, page_findings):
+    """what differs, in words; `as_file` tells whether listing and page, and not the replies, are asked with FILE"""
+    for word, file, output, said in (
+        ((), as_file, listing, findings),
+        (("replies",), not as_file, replies, findings),
+        (("page",), as_file, page, page_findings),
+    ):
         asked = " ".join(["yearbook", *word, "FILE" if file else "<FILE"])
         status, out, err = printed(program, word, journal, file)
         if status != 0:
             yield f"{asked}: status {status}"
-        for name, ours, theirs in (("standard output", out, output), ("standard error", err, findings)):
+        for name, ours, theirs in (("standard output", out, output), ("standard error", err, said)):
             if ours != theirs:
                 yield f"{asked}: {name}: {first_difference(ours, theirs)}"
 
 
+def pages(page, page_findings):
+    """which of PAGES a journal has"""
+    headings = page.count(b"PAGE ")
+    return [name for name, holds in zip(PAGES, (headings > 0, headings == 2, b": no page, " in page_findings)) if holds]
+
+
 def compare(program, reference, journals, both_ways):
-    """what differs, by journal, and how often each number was met"""
+    """what differs, by journal, and how often each number was met and each of PAGES occurred"""
     different, met = {}, collections.Counter()
     for place, (journal, parts) in enumerate(zip(journals, expected(reference, journals))):
         ways = (True, False) if both_ways else (place % 2 == 0,)
@@ -67,6 +79,7 @@ def compare(program, reference, journals, both_ways):
         if found:
             different[journal] = found
         met.update(map(int, re.findall(rb": (\d+) ", parts[1])))
+        met.update(pages(*parts[3:]))
     return different, met
 
 
@@ -94,14 +107,15 @@ def main():
                 print(f"{journal} differs:", *found, sep="\n  ")
     for number in NUMBERS:
         print(f"number {number:2}: {met[number]} times")
-    missing = [number for number in NUMBERS if not met[number]]
+    print(", ".join(f"{name}: {met[name]} journals" for name in PAGES))
+    missing = [item for item in (*NUMBERS, *PAGES) if not met[item]]
     if missing:
-        print("test-yearbook: FAILED, never met:", *missing)
+        print("test-yearbook: FAILED, never met:", ", ".join(map(str, missing)))
     if wrong:
         print(f"test-yearbook: FAILED, {wrong} journals differ, kept in {kept}")
     if missing or wrong:
         sys.exit(1)
-    print(f"test-yearbook: passed, {count[True]} stored journals and {count[False]} random ones, listing, replies and standard error of each")
+    print(f"test-yearbook: passed, {count[True]} stored journals and {count[False]} random ones, listing, replies, page and standard error of each")
 
 
 if __name__ == "__main__":

@@ -2,7 +2,8 @@
 """journals.py JOURNAL DIR: writes journals that no text stands for into DIR, named NAME.journal.
 
 Case J (JOURNAL) cut behind each byte, with unknown marks and with odd counts; a text in place of a journal; fields that are all 0 and
-all 255; the largest inputs of 65,536 bytes, whole and cut, and longer ones; a listing with every line there can be, and the longest replies."""
+all 255; the largest inputs of 65,536 bytes, whole and cut, and longer ones; a listing with every line there can be, and the longest replies;
+printed closes about the end of a page, and those with the widest figures."""
 import struct
 import sys
 
@@ -61,6 +62,28 @@ def widest():
     return b"".join(calls) + close(2500)
 
 
+def closed(declared, dmp, readings, p):
+    """a year that closes, from D and A by consumer, the last one declared first, and from readings by consumer"""
+    calls = [declare(consumer, d, a) for consumer, (d, a) in reversed(list(declared.items()))]
+    calls += [fix(dmp)] + [meter(consumer, dreal) for consumer, dreal in readings.items()]
+    return year() + b"".join(calls) + close(p)
+
+
+def closes():
+    """years of 49, 50, 51 and 64 consumers, the first with a credit and the last with a charge; and years with the widest figures"""
+    every = range(1, 65)
+    for count in (49, 50, 51, 64):
+        numbers = [consumer for consumer in every if consumer % 5 or count == 64][:count]
+        readings = {**dict.fromkeys(numbers, 100), numbers[0]: 0, numbers[-1]: 200}
+        yield f"consumers-{count}", closed(dict.fromkeys(numbers, (100, 200)), 100 * count, readings, 890)
+    most, charged = 3000000, (0, 1)
+    for name, one in ("credit-first", 1), ("credit-last", 64):
+        declared, readings = dict.fromkeys(every, charged), dict.fromkeys(every, most)
+        yield name, closed({**declared, one: (most, most)}, most, {**readings, one: 0}, 2500)
+    yield "one-charged", closed({**dict.fromkeys(range(1, 64), (1, 1)), 64: charged}, most, {64: 63}, 2500)
+    yield "all-charged", closed({**dict.fromkeys(every, charged), 1: (1, 2)}, 1, dict.fromkeys(every, most), 2500)
+
+
 def filled(start, record, size):
     """start and records behind it up to a size, the last one cut"""
     return (start + record * ((size - len(start)) // len(record) + 1))[:size]
@@ -96,7 +119,9 @@ def journals(j):
     yield "largest-whole", filled(year() + declare(1, 1, 1) + fix(1), meter(1, 1), LIMIT - (LIMIT - 24) % 7)
     yield "longest-replies", refused_closes(1)
     yield "longest-replies-whole", refused_closes(4)
+    yield from closes()
     yield "too-long", filled(widest()[:-4], meter(1, 1), LIMIT + 1)
+    yield "too-long-closed", filled(widest(), close(1), LIMIT + 1)
     yield "far-too-long", filled(year(), year(), 3 * LIMIT)
 
 

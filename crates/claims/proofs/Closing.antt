@@ -1,38 +1,32 @@
 -- The close: an accepted one keeps what is kept, and the number of any one.
 use mathlib.Core.Path.{_≡_, refl, sym, ap, _∙_}
-use mathlib.Core.Bool.{Bool, true, false}
+use mathlib.Core.Bool.{true, false}
 use mathlib.Core.List.{List, [], _∷_, map}
 use mathlib.Core.Logic.{_⊎_, inl, inr}
-use Prim.Native.Nat.{ℕ, zero, suc, _-_, _*_, _≤_, _<_, zero-le}
-use native.Mathlib.Nat.{mul-le-mul}
+use Prim.Native.Nat.{ℕ, zero, suc, _-_, _≤_, _<_, zero-le}
 use native.Mathlib.Omega.{arith}
-use lib.Dec.{ltb}
 use lib.ListN.{length, getD, length-map}
-use Rattle.basis.specs.Choice.{pick}
 use Rattle.basis.specs.Sums.{sum, allAtMost}
-use Rattle.basis.proofs.Choice.{peel-not}
-use Rattle.basis.proofs.Sums.{sum-at-most, all-at-most, at-most-all}
+use Rattle.basis.proofs.Sums.{at-most-all}
 use Rattle.basis.proofs.Tables.{length-tab, getD-tab}
 use Rattle.share.specs.Division.{divisionNumber}
-use Rattle.quantities.specs.Limits.{greatestTotal, greatestWeight, greatestPower, greatestPrice, consumers}
+use Rattle.quantities.specs.Limits.{greatestTotal, greatestWeight, consumers}
 use Rattle.share.proofs.Accepted.{enough}
-use Rattle.table.proofs.Laws.{Numbered}
-use Rattle.table.proofs.Table.{close-ranged}
 use Rattle.table.specs.Records.{partsOf}
 use Rattle.table.specs.declared.calls.Call.the-variants as call
 use Rattle.table.specs.Records as name
 use Rattle.state.specs.declared.kept.Stage.the-variants.{Firm}
-use Rattle.state.specs.declared.kept.Declaration.{Declaration}
-use Rattle.state.specs.declared.kept.Declaration.the-variants.{Undeclared, Declared}
 use Rattle.state.specs.declared.kept.Consumer.{Consumer}
 use Rattle.state.specs.declared.kept.Book.{Book}
 use Rattle.fix.specs.Fix.{weightsOf}
-use Rattle.close.specs.Close.{adjustedOf, adjustedIn, surplusBy, chargeBy, surplusesIn, chargesIn, creditsOf, undistributedOf, closeRest, closeNumber, closeNumberBy, figuresOf, closed}
+use Rattle.close.specs.Close.{adjustedOf, adjustedIn, surplusBy, surplusesIn, chargesIn, creditsOf, undistributedOf, closeRest, closeNumber, closeNumberBy, figuresOf, closed}
+use Rattle.close.proofs.Bounds.{AcceptedClose}
+use Rattle.close.proofs.CloseLaws.{charges-small, accepted-close}
 use Rattle.book.specs.Lists.{Event}
 use Rattle.claims.specs.History.{Last, never, last, isA, lastThat, begunIn, fixedIn, closedIn, dmpIn, priceIn, declaredIn}
 use Rattle.claims.specs.Figures.{demandIn, declarationBy, consumerIn, consumersIn, adjustedDemandsIn, positiveAdjustmentsIn, allChargesIn, allCreditsIn, undistributedIn}
 use Rattle.claims.specs.Refusals.{numberIn}
-use Rattle.claims.proofs.SameFigures.{last-this, hours-as-before, dmp-as-before}
+use Rattle.claims.proofs.SameFigures.{last-this, hours-as-before, fixed-as-before, dmp-as-before}
 use Rattle.claims.proofs.Stages.{firm-is, Passed, accepted-shows, behind}
 use Rattle.claims.proofs.Kept.{Kept}
 use Rattle.claims.proofs.Untouched.{same-consumers, plants-other, consumers-other, contracts-other, firm-other}
@@ -45,20 +39,6 @@ module _ {A : Type 0} where
   mapped-at-most g (x ∷ l) m h zero = h 0 (omega arith) x
   mapped-at-most g (x ∷ l) m h (suc i) = mapped-at-most g l m (λ j p d. h (suc j) (omega arith) d) i
 
--- what one consumer is charged at most
-abbrev greatestCharge : ℕ
-greatestCharge = greatestPower * greatestPrice * 12
-
--- a charge is bounded by its adjustment and the price
-charge-at-most : (p dfa : ℕ) (d : Declaration) → dfa ≤ greatestPower → p ≤ greatestPrice → chargeBy p dfa d ≤ greatestCharge
-charge-at-most p dfa Undeclared a b = zero-le
-charge-at-most p dfa (Declared f) a b = go (ltb (100 * f .d) (98 * f .a))
-  where
-    go : (t : Bool) → pick t ((dfa - f .df) * p * 12) 0 ≤ greatestCharge
-    go true =
-        let m = mul-le-mul {n₁ = dfa - f .df} {m₁ = p} {n₂ = greatestPower} {m₂ = greatestPrice} (omega arith) b in omega arith
-    go false = zero-le
-
 surplus-at-most : (dfa df m : ℕ) (l : Last) → df ≤ m → surplusBy dfa (declarationBy df l) ≤ m
 surplus-at-most dfa df m never h = zero-le
 surplus-at-most dfa df m (last e) h = omega arith
@@ -70,9 +50,6 @@ module _ (h : List Event) (b : Book) (k : Kept h b) (p : ℕ) (readings : List �
   shown : Passed (call.Close p) [] Firm (b .stage) (closeRest (b .dmp) (b .consumers))
   unfolding closeNumberBy
   shown = accepted-shows (call.Close p) [] Firm (b .stage) (closeRest (b .dmp) (b .consumers)) z
-
-  price-range : Numbered greatestPrice p
-  price-range = close-ranged p [] (shown .range)
 
   was-firm : (closedIn h ≡ false) × (fixedIn h ≡ true)
   was-firm = firm-is (closedIn h) (fixedIn h) (begunIn h) (sym (k .timing .stage-kept) ∙ shown .stage)
@@ -118,35 +95,16 @@ module _ (h : List Event) (b : Book) (k : Kept h b) (p : ℕ) (readings : List �
       ap (λ c. undistributedOf (sum c) (surplusesIn (b .dmp) (b .consumers))) charges-now
       ∙ ap (undistributedOf (sum (allChargesIn (close ∷ h)))) surpluses-now
 
-  -- every adjusted demand is within the range
-  adjusted-small : allAtMost greatestPower (adjustedIn (b .dmp) (b .consumers)) ≡ true
-  adjusted-small = peel-not (allAtMost greatestPower (adjustedIn (b .dmp) (b .consumers))) 13 0 (shown .rest) .0
+  -- the price is in range, and so is every adjusted demand
+  shown-close : AcceptedClose (b .dmp) (b .consumers) p
+  shown-close = accepted-close (b .stage) (b .dmp) (b .consumers) p z
 
   count : length (b .consumers) ≡ consumers
   unfolding consumersIn
   count = ap length (k .consumers .consumers-kept) ∙ length-tab (λ i. consumerIn h (suc i)) consumers
 
-  one-adjusted : (i : ℕ) → i < length (b .consumers) → (d : Consumer) → adjustedOf (b .dmp) (sum (weightsOf (b .consumers))) (getD (b .consumers) i d) ≤ greatestPower
-  unfolding adjustedIn
-  one-adjusted i q d =
-      at (b .consumers) i q (λ j. all-at-most greatestPower (map (adjustedOf (b .dmp) (sum (weightsOf (b .consumers)))) (b .consumers)) adjusted-small j)
-    where
-      at : (xs : List Consumer) (j : ℕ) → j < length xs → ((n : ℕ) → getD (map (adjustedOf (b .dmp) (sum (weightsOf (b .consumers)))) xs) n 0 ≤ greatestPower) → adjustedOf (b .dmp) (sum (weightsOf (b .consumers))) (getD xs j d) ≤ greatestPower
-      at [] j r w = absurd (omega arith)
-      at (x ∷ xs) zero r w = w 0
-      at (x ∷ xs) (suc j) r w = at xs j (omega arith) (λ n. w (suc n))
-
-  charge-small : (i : ℕ) → getD (chargesIn p (b .dmp) (b .consumers)) i 0 ≤ greatestCharge
-  unfolding chargesIn
-  charge-small =
-      mapped-at-most (λ (x : Consumer). chargeBy p (adjustedOf (b .dmp) (sum (weightsOf (b .consumers))) x) (x .declaration)) (b .consumers) greatestCharge
-      (λ i q d. charge-at-most p (adjustedOf (b .dmp) (sum (weightsOf (b .consumers))) (getD (b .consumers) i d)) (getD (b .consumers) i d .declaration) (one-adjusted i q d) (price-range .most))
-
-  charges-small : sum (chargesIn p (b .dmp) (b .consumers)) ≤ greatestTotal
-  unfolding chargesIn
-  charges-small =
-      let n : length (chargesIn p (b .dmp) (b .consumers)) ≡ consumers = length-map (b .consumers) (λ (x : Consumer). chargeBy p (adjustedOf (b .dmp) (sum (weightsOf (b .consumers))) x) (x .declaration)) ∙ count in
-      omega (arith, sum-at-most greatestCharge (chargesIn p (b .dmp) (b .consumers)) charge-small, ap (λ m. m * greatestCharge) n)
+  all-small : sum (chargesIn p (b .dmp) (b .consumers)) ≤ greatestTotal
+  all-small = charges-small (b .dmp) (b .consumers) p shown-close count
 
   demand-small : (i : ℕ) → i < length (b .consumers) → (d : Consumer) → (dfa : ℕ) → surplusBy dfa (getD (b .consumers) i d .declaration) ≤ greatestWeight
   unfolding consumersIn
@@ -173,7 +131,7 @@ module _ (h : List Event) (b : Book) (k : Kept h b) (p : ℕ) (readings : List �
       inl
       (enough (sum (chargesIn p (b .dmp) (b .consumers))) (surplusesIn (b .dmp) (b .consumers)) consumers consumers
       (record {
-        total = charges-small;
+        total = all-small;
         some = omega (arith, length-surpluses);
         most = omega (arith, length-surpluses);
         weights = surplus-small;
@@ -204,6 +162,9 @@ module _ (h : List Event) (b : Book) (k : Kept h b) (p : ℕ) (readings : List �
               charged-kept = λ q. refl;
               credited-kept = λ q. refl;
               undistributed-kept = λ q. undistributed-now;
+              fixed-before = λ q. fixed-as-before close h refl ∙ was-firm .1;
+              adjusted-small = λ q. rw (← adjusted-now) (shown-close .within);
+              charges-small = λ q. rw (← charges-now) all-small;
               charges-divided = λ q. rw (← charges-now, ← surpluses-now) (divides (sum (surplusesIn (b .dmp) (b .consumers))) refl);
             };
       }

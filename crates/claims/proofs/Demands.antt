@@ -17,7 +17,7 @@ use Rattle.book.specs.Lists.{Event}
 use Rattle.fix.specs.Fix.{declaredBy, weightsOf}
 use Rattle.claims.specs.History.{Last, never, last, fieldIn, fixedIn, dmpIn, declaredIn}
 use Rattle.claims.specs.Figures.{declarationsIn, totalDeclaredIn, demandIn, declarationBy, consumerIn, consumersIn}
-use Rattle.claims.specs.Demand.{firmDemandBy}
+use Rattle.state.specs.State.{firmDemandBy}
 use Rattle.claims.proofs.Tables.{map-tab}
 
 weight-of : (df : ℕ) (l : Last) → declaredBy (declarationBy df l) ≡ fieldIn 1 l

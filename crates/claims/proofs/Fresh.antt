@@ -59,6 +59,9 @@ fresh-kept =
             charged-kept = λ e. absurd (false≢true e);
             credited-kept = λ e. absurd (false≢true e);
             undistributed-kept = λ e. absurd (false≢true e);
+            fixed-before = λ e. absurd (false≢true e);
+            adjusted-small = λ e. absurd (false≢true e);
+            charges-small = λ e. absurd (false≢true e);
             charges-divided = λ e. absurd (false≢true e);
           };
     }

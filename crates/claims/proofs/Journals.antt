@@ -1,4 +1,4 @@
--- Every journal, from the laws of the run and demand 3.
+-- Every journal, from the laws of the run, demand 3 and the printed close.
 use mathlib.Core.Path.{_≡_, refl, ap, subst, _∙_}
 use mathlib.Core.List.{List, [], _∷_}
 use Prim.Native.Nat.{ℕ}
@@ -16,8 +16,10 @@ use Rattle.journal.proofs.Counts.{read-counts}
 use Rattle.journal.proofs.Refusals.{naming, named-first}
 use Rattle.journal.proofs.Turns.{run-beginning}
 use Rattle.claims.specs.Demand.{Demand3}
+use Rattle.claims.specs.Printed.{PrintedClose}
 use Rattle.claims.specs.Journals.{EveryJournal}
 use Rattle.claims.proofs.Theorem.{demand3}
+use Rattle.claims.proofs.Printed.{always-printed}
 
 -- what is named, and that nothing is
 place-named : (f : FirstRefused) (place number : ℕ) → namedPlaces f ≡ place ∷ [] → namedNumbers f ≡ number ∷ [] → f ≡ At place number
@@ -33,6 +35,7 @@ pub every-journal : (journal : List ℕ) → EveryJournal journal
 every-journal journal =
     record {
       demand = subst (λ (b : Book). Demand3 (acceptedBy freshBook [] (callsOf journal)) b) (run-book journal) (demand3 (callsOf journal));
+      printed = subst (λ (b : Book). PrintedClose (acceptedBy freshBook [] (callsOf journal)) b) (run-book journal) (always-printed (callsOf journal));
       counts = read-counts journal;
       named = λ place number e d. named-first journal place number (place-named (runOf journal .first) place number e d);
       none-named = λ e. naming journal .none (no-place-named (runOf journal .first) e);

@@ -5,10 +5,10 @@ use mathlib.Core.List.{List}
 use mathlib.Core.Logic.{_⊎_}
 use Prim.Native.Nat.{ℕ, _+_, _-_, _≤_}
 use lib.ListN.{length, getD}
-use Rattle.basis.specs.Sums.{sum}
+use Rattle.basis.specs.Sums.{sum, allAtMost}
 use Rattle.share.specs.Division.{divisionNumber}
 use Rattle.power.specs.Power.{fresh, maximumPower}
-use Rattle.quantities.specs.Limits.{greatestPower, producers, consumers}
+use Rattle.quantities.specs.Limits.{greatestTotal, greatestPower, producers, consumers}
 use Rattle.power.specs.declared.component.Cap.{Cap}
 use Rattle.power.specs.declared.component.Cap.the-variants.{Free, At}
 use Rattle.power.specs.declared.component.Component.{Component}
@@ -67,6 +67,10 @@ pub record Money (h : List Event) (figures : CloseFigures) : Type 0 where
   pub charged-kept : closedIn h ≡ true → figures .charged ≡ sum (figures .charges)
   pub credited-kept : closedIn h ≡ true → figures .credited ≡ sum (figures .credits)
   pub undistributed-kept : closedIn h ≡ true → figures .undistributed ≡ undistributedIn h
+  -- the year was fixed before, and the close was within its bounds
+  pub fixed-before : closedIn h ≡ true → fixedIn h ≡ true
+  pub adjusted-small : closedIn h ≡ true → allAtMost greatestPower (adjustedDemandsIn h) ≡ true
+  pub charges-small : closedIn h ≡ true → sum (allChargesIn h) ≤ greatestTotal
   -- the charges were divided, or there was no positive adjustment to divide them by
   pub charges-divided : closedIn h ≡ true → (divisionNumber (sum (allChargesIn h)) (positiveAdjustmentsIn h) consumers ≡ 0) ⊎ (sum (positiveAdjustmentsIn h) ≡ 0)
 

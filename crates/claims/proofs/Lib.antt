@@ -19,6 +19,8 @@ pub mod ContractCalls
 pub mod Closing
 pub mod Lists
 pub mod Theorem
+pub mod Numbers
+pub mod Printed
 pub mod Refusals
 pub mod Cases
 pub mod Journals

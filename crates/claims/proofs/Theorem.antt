@@ -22,13 +22,13 @@ use Rattle.table.proofs.Laws.{Numbered}
 use Rattle.state.specs.declared.kept.Unit.{Unit}
 use Rattle.state.specs.declared.kept.Consumer.{Consumer}
 use Rattle.state.specs.declared.kept.Book.{Book}
-use Rattle.state.specs.State.{freshBook, rowOf}
+use Rattle.state.specs.State.{freshBook, firmDemandBy, rowOf}
 use Rattle.gathering.specs.Units.{capOf}
 use Rattle.close.specs.Close.{creditsOf, undistributedOf}
 use Rattle.book.specs.Lists.{Event, afterAll, acceptedBy}
 use Rattle.claims.specs.History.{Last, never, last, field, fieldIn, lastThat, about, fixedIn, closedIn, dmpIn, declaredIn, entryBy, entryIn, componentIn}
 use Rattle.claims.specs.Figures.{efficientOfferIn, producerOfferIn, declarationsIn, totalDeclaredIn, demandIn, consumerIn, declarationBy, positiveAdjustmentsIn, allChargesIn, allCreditsIn, undistributedIn}
-use Rattle.claims.specs.Demand.{firmDemandBy, demandOf, NoSurplus, Demand3, Claim}
+use Rattle.claims.specs.Demand.{demandOf, NoSurplus, Demand3, Claim}
 use Rattle.claims.proofs.Kept.{Within, Kept}
 use Rattle.claims.proofs.Demands.{total-positive, declaration-at, demand-at, demand-in, demands-in}
 use Rattle.claims.proofs.Fixing.{empty-row}

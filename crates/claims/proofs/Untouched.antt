@@ -125,6 +125,9 @@ module _ (e : Event) (h : List Event) where
         charged-kept = λ q. absurd (no q);
         credited-kept = λ q. absurd (no q);
         undistributed-kept = λ q. absurd (no q);
+        fixed-before = λ q. absurd (no q);
+        adjusted-small = λ q. absurd (no q);
+        charges-small = λ q. absurd (no q);
         charges-divided = λ q. absurd (no q);
       }
     where

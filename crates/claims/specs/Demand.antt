@@ -8,19 +8,13 @@ use Rattle.basis.specs.Sums.{sum}
 use Rattle.quantities.specs.Limits.{units, producers, consumers}
 use Rattle.quantities.specs.Flags.{flagged, injectionGiven}
 use Rattle.table.specs.Records as name
-use Rattle.state.specs.declared.kept.Declaration.{Declaration}
-use Rattle.state.specs.declared.kept.Declaration.the-variants.{Undeclared, Declared}
 use Rattle.state.specs.declared.kept.Book.{Book}
-use Rattle.state.specs.State.{freshBook, consumerAt, cellOf, rowOf}
+use Rattle.state.specs.State.{freshBook, consumerAt, firmDemandBy, cellOf, rowOf}
 use Rattle.book.specs.Lists.{Event, afterAll, acceptedBy}
 use Rattle.claims.specs.History.{last, field, fieldIn, lastThat, about, fixedIn, closedIn, dmpIn, declaredIn, commitmentsIn, releasesIn}
 use Rattle.claims.specs.Figures.{powerIn, offersIn, efficientOffersIn, efficientOfferIn, producerOfferIn, totalDeclaredIn, demandIn, adjustedDemandsIn, positiveAdjustmentsIn, allChargesIn, allCreditsIn, undistributedIn}
 
 -- the firm demand that the book has for a consumer, and for all of them
-abbrev pub firmDemandBy : Declaration → ℕ
-firmDemandBy Undeclared = 0
-firmDemandBy (Declared f) = f .df
-
 abbrev pub demandOf : Book → ℕ → ℕ
 demandOf b c = firmDemandBy (consumerAt (b .consumers) c .declaration)
 

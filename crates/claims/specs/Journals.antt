@@ -8,10 +8,13 @@ use Rattle.book.specs.Lists.{acceptedBy}
 use Rattle.journal.specs.Run.{namedPlaces, namedNumbers, runOf, runFrom}
 use Rattle.journal.specs.Calls.{callsOf, FirstRefusedAt}
 use Rattle.claims.specs.Demand.{Demand3}
+use Rattle.claims.specs.Printed.{PrintedClose}
 
 pub record EveryJournal (journal : List ℕ) : Type 0 where
   -- the run's book is the book after the list of the calls that it read, so demand 3 holds of it
   pub demand : Demand3 (acceptedBy freshBook [] (callsOf journal)) (runOf journal .book)
+  -- and so does what is promised of the printed close
+  pub printed : PrintedClose (acceptedBy freshBook [] (callsOf journal)) (runOf journal .book)
   -- records read are those accepted and those refused
   pub counts : runOf journal .read ≡ runOf journal .accepted + runOf journal .refused
   -- a named place and number are those of a refused record, the first one

@@ -4,4 +4,5 @@ pub mod Figures
 pub mod Demand
 pub mod Refusals
 pub mod Cases
+pub mod Printed
 pub mod Journals

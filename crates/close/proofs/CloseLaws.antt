@@ -2,19 +2,19 @@
 use mathlib.Core.Path.{_≡_, refl, sym, ap, _∙_}
 use mathlib.Core.Bool.{Bool, true, false}
 use mathlib.Core.List.{List, [], _∷_, map}
-use Prim.Native.Nat.{ℕ, zero, suc, _-_, _*_, _/_, _^_, _≤_, _<_, zero-le}
-use native.Mathlib.Nat.{mul-le-mul, zero-mul, zero-div}
+use Prim.Native.Nat.{ℕ, zero, suc, _-_, _*_, _/_, _^_, _≤_, _<_}
+use native.Mathlib.Nat.{zero-mul, zero-div}
 use native.Mathlib.Omega.{arith}
 use borrow.Author.Tests.{eqb-true, eqb-false}
-use lib.Dec.{ltb, eqb}
+use lib.Dec.{eqb}
 use lib.ListN.{length, getD, replicate, length-map, List·getD-map}
 use Rattle.basis.specs.Choice.{pick}
 use Rattle.basis.specs.Sums.{sum, allAtMost}
 use Rattle.basis.specs.Tables.{tab}
-use Rattle.basis.proofs.Sums.{all-at-most, sumUp-at-most, sum-zeros}
-use Rattle.basis.proofs.Tables.{tab-same, sum-tab}
+use Rattle.basis.proofs.Sums.{sum-zeros}
+use Rattle.basis.proofs.Tables.{tab-same}
 use Rattle.share.specs.Division.{Divides, divisionNumber, shares}
-use Rattle.quantities.specs.Limits.{greatestPower, greatestPrice, consumers}
+use Rattle.quantities.specs.Limits.{greatestTotal, greatestPower, greatestPrice, consumers}
 use Rattle.state.specs.declared.kept.Declaration.{Declaration}
 use Rattle.state.specs.declared.kept.Declaration.the-variants.{Undeclared, Declared}
 use Rattle.state.specs.declared.kept.Reading.{Reading}
@@ -33,24 +33,11 @@ use Rattle.close.specs.Close.{declaredReal, realDemand, realsOf, adjuste
 use Rattle.basis.proofs.Choice.{peel-not, handed-on}
 use Rattle.basis.proofs.Filling.{tab-map}
 use Rattle.fix.proofs.DivisionLaws.{accepted, refused, whole}
-
--- kW in range times P
-pub priced-at-most : (p x : ℕ) → x ≤ greatestPower → p ≤ greatestPrice → x * p ≤ greatestPower * greatestPrice
-priced-at-most p x h k = mul-le-mul {n₂ = greatestPower} {m₂ = greatestPrice} h k
-
-charge-at-most : (p dfa : ℕ) (x : Declaration) → dfa ≤ greatestPower → p ≤ greatestPrice → chargeBy p dfa x ≤ greatestPower * greatestPrice * 12
-charge-at-most p dfa Undeclared h k = zero-le
-charge-at-most p dfa (Declared f) h k = go (ltb (100 * f .d) (98 * f .a))
-  where
-    go : (t : Bool) → pick t ((dfa - f .df) * p * 12) 0 ≤ greatestPower * greatestPrice * 12
-    go true = omega (arith, priced-at-most p (dfa - f .df) (omega arith) k)
-    go false = zero-le
+use Rattle.close.proofs.Bounds.{charges-at-most, AcceptedClose}
 
 -- the charges of all consumers fit 64 bits
 pub charges-fit : (p : ℕ) (adjusted : List ℕ) (xs : List Consumer) → allAtMost greatestPower adjusted ≡ true → p ≤ greatestPrice → sum (tab (λ i. chargeBy p (getD adjusted i 0) (getD xs i freshConsumer .declaration)) consumers) < 2 ^ 64
-charges-fit p adjusted xs e k =
-    let f : ℕ → ℕ = λ i. chargeBy p (getD adjusted i 0) (getD xs i freshConsumer .declaration) in
-    omega (arith, sum-tab f consumers, sumUp-at-most (greatestPower * greatestPrice * 12) f consumers (λ i _. charge-at-most p (getD adjusted i 0) (getD xs i freshConsumer .declaration) (all-at-most greatestPower adjusted e i) k))
+charges-fit p adjusted xs e k = omega (arith, charges-at-most p adjusted xs e k)
 
 pub length-adjusted : (dmp : ℕ) (xs : List Consumer) → length (adjustedIn dmp xs) ≡ length xs
 unfolding adjustedIn
@@ -107,6 +94,11 @@ module _ (dmp : ℕ) (adjusted : List ℕ) (xs : List Consumer) (e : adjusted �
   unfolding surplusesIn
   surpluses-by-consumer = by-consumer surplusBy
 
+-- the charges of an accepted close
+pub charges-small : (dmp : ℕ) (xs : List Consumer) (p : ℕ) → AcceptedClose dmp xs p → length xs ≡ consumers → sum (chargesIn p dmp xs) ≤ greatestTotal
+charges-small dmp xs p a n =
+    rw (← charges-by-consumer dmp (adjustedIn dmp xs) xs refl n p) (charges-at-most p (adjustedIn dmp xs) xs (a .within) (a .price))
+
 -- the division of the charges by the positive ADF
 module _ (T : ℕ) (ws new : List ℕ) (number : ℕ) (full : length ws ≡ consumers) (d : Divides T ws (replicate consumers 0) number new) where
   pub credits : new ≡ creditsOf T ws
@@ -134,11 +126,7 @@ pub figures-with : (p dmp : ℕ) (xs : List Consumer) (adjusted charges surpluse
 unfolding figuresOf
 figures-with p dmp xs adjusted charges surpluses shared charged credited rest a c s t h r u = rw (u, r, h, t, s, c, a)
 
--- a close that is accepted has its price in range and no DFA above the greatest
-pub record AcceptedClose (dmp : ℕ) (xs : List Consumer) (p : ℕ) : Type 0 where
-  pub price : p ≤ greatestPrice
-  pub within : allAtMost greatestPower (adjustedIn dmp xs) ≡ true
-
+-- an accepted close was within its range, and so was every DFA
 pub accepted-close : (stage : Stage) (dmp : ℕ) (xs : List Consumer) (p : ℕ) → closeNumberBy stage dmp xs p ≡ 0 → AcceptedClose dmp xs p
 unfolding closeNumberBy
 accepted-close stage dmp xs p e =

@@ -1,2 +1,3 @@
 -- Laws of the close.
+pub mod Bounds
 pub mod CloseLaws

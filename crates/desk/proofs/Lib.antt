@@ -3,3 +3,4 @@ pub mod Lines
 pub mod Found
 pub mod Told
 pub mod Silence
+pub mod Printed

@@ -2,7 +2,7 @@
 use mathlib.Core.Path.{_≡_, refl, sym, ap, _∙_}
 use mathlib.Core.Bool.{Bool, true, false}
 use mathlib.Core.List.{List, [], _++_}
-use Prim.Native.Nat.{ℕ, zero, suc, _-_, _≤_, _<_}
+use Prim.Native.Nat.{ℕ, suc, _-_, _≤_, _<_}
 use native.Mathlib.Omega.{arith}
 use borrow.Author.Tests.{eq-eqb, ne-eqb}
 use lib.ListN.{length}
@@ -16,9 +16,8 @@ use Rattle.state.specs.declared.kept.Reply.{Reply}
 use Rattle.book.specs.Step.{stepOf}
 use Rattle.text.specs.Text.{Puts}
 use Rattle.text.proofs.Putting.{puts-none, puts-within, puts-as}
-use Rattle.words.proofs.Pieces.{puts-fits}
+use Rattle.text.proofs.Pieces.{puts-fits}
 use Rattle.desk.specs.declared.replies.Rest.{Rest}
-use Rattle.desk.specs.declared.replies.Told.{Told}
 use Rattle.desk.specs.Replies.{replyLine, endLine, lineAt, bookBehind, placeBehind, isLast, linesFrom, restOf, nextLine, replyMost, Tells}
 
 -- no record stands there: the line tells the stop, and is the last

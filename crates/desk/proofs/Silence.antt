@@ -1,26 +1,25 @@
 -- Nothing is found exactly where the whole input was read and nothing was refused.
-use mathlib.Core.Path.{_≡_, refl, sym, ap, _∙_}
+use mathlib.Core.Path.{_≡_, refl}
 use mathlib.Core.Bool.{Bool, true, false}
 use mathlib.Core.List.{List, [], _∷_, _++_}
-use Prim.Native.Nat.{ℕ, suc, _+_, _≤_, _<_}
+use Prim.Native.Nat.{ℕ, _+_, _≤_}
 use native.Mathlib.Omega.{arith}
-use borrow.Author.Tests.{eqb-true, eqb-false, eq-eqb, ltb-true, ltb-false, le-ltb}
+use borrow.Author.Tests.{eqb-true, ltb-false, le-ltb}
 use lib.Dec.{eqb, ltb}
-use lib.ListN.{length, length-append}
+use lib.ListN.{length}
 use Rattle.basis.specs.Choice.{pick}
 use Rattle.journal.specs.declared.outcome.FirstRefused.{FirstRefused}
 use Rattle.journal.specs.declared.outcome.FirstRefused.the-variants.{Nothing, At}
-use Rattle.journal.specs.declared.outcome.Run.{Run}
 use Rattle.journal.specs.Run.{runOf}
 use Rattle.journal.proofs.Refusals.{naming}
 use Rattle.listing.specs.Listing.{mostInput}
-use Rattle.words.specs.Phrases.{bytes}
+use Rattle.text.specs.Text.{bytes}
 use Rattle.words.specs.Numbers.{atPlace}
 use Rattle.desk.specs.Findings.{refusals, stopping, findingsOf, nothingRead, findingsFor}
-use Rattle.desk.specs.Promises.{Silent, SilentExactly}
+use Rattle.desk.specs.Promises.{SilentExactly}
 
 -- a text that begins with a byte is not empty
-begun : {A : Type 0} {b : ℕ} {l : List ℕ} → b ∷ l ≡ [] → A
+pub begun : {A : Type 0} {b : ℕ} {l : List ℕ} → b ∷ l ≡ [] → A
 begun e = let z : _≡_ {A = ℕ} 0 1 = cc in absurd (omega arith)
 
 -- nothing is said of refusals only where none is named, and of a stop only where there is none
@@ -38,13 +37,13 @@ no-stop stop place = go (eqb stop 0) refl
     go false e h = begun h
 
 -- two texts that are empty together are each empty
-both-empty : (a b : List ℕ) → a ++ b ≡ [] → (a ≡ []) × (b ≡ [])
+pub both-empty : (a b : List ℕ) → a ++ b ≡ [] → (a ≡ []) × (b ≡ [])
 both-empty [] b e = (refl, e)
 both-empty (x ∷ a) b e = begun e
 
 module _ (input : List ℕ) where
   -- an input that was taken, with its findings
-  found : findingsFor input ≡ [] → (length input ≤ mostInput) × (findingsOf (runOf input) ≡ [])
+  pub found : findingsFor input ≡ [] → (length input ≤ mostInput) × (findingsOf (runOf input) ≡ [])
   unfolding findingsFor bytes
   found = go (ltb mostInput (length input)) refl
     where

@@ -3,12 +3,15 @@ use mathlib.Core.Path.{_≡_}
 use mathlib.Core.List.{List, [], _∷_, _++_}
 use Prim.Native.Nat.{ℕ, _≤_}
 use lib.ListN.{length}
+use Rattle.state.specs.declared.kept.Stage.the-variants.{Closed}
+use Rattle.state.specs.State.{stageNumber}
 use Rattle.book.specs.Lists.{Event}
 use Rattle.journal.specs.Run.{runOf}
 use Rattle.journal.specs.Calls.{callsOf, recordPlaces, replyNumbers}
 use Rattle.listing.specs.Listing.{mostInput}
 use Rattle.desk.specs.Replies.{replyLine, endLine, repliesOf}
 use Rattle.desk.specs.Findings.{findingsFor}
+use Rattle.desk.specs.Printing.{pageFindingsFor}
 
 -- a line for each record, from its place, its call and the number of its reply; there are as many places and numbers as calls
 unfoldable pub linesOf : List ℕ → List Event → List ℕ → List ℕ
@@ -32,3 +35,12 @@ pub record Silent (input : List ℕ) : Type 0 where
 
 abbrev pub SilentExactly : Type 0
 SilentExactly = (input : List ℕ) → Silent input
+
+-- under the word `page` nothing is said exactly where, besides, the year is closed
+pub record SilentPage (input : List ℕ) : Type 0 where
+  pub as-before : pageFindingsFor input ≡ [] → findingsFor input ≡ []
+  pub closed : pageFindingsFor input ≡ [] → stageNumber (runOf input .book .stage) ≡ stageNumber Closed
+  pub silent : findingsFor input ≡ [] → stageNumber (runOf input .book .stage) ≡ stageNumber Closed → pageFindingsFor input ≡ []
+
+abbrev pub SilentPageExactly : Type 0
+SilentPageExactly = (input : List ℕ) → SilentPage input

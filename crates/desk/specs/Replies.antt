@@ -12,11 +12,10 @@ use Rattle.record.specs.Reading.{readAt, stopNumber, partOf}
 use Rattle.state.specs.declared.kept.Book.{Book}
 use Rattle.state.specs.State.{freshBook}
 use Rattle.book.specs.Step.{stepOf}
-use Rattle.text.specs.Text.{Puts, decimal, lineMost}
+use Rattle.text.specs.Text.{Puts, decimal, lineMost, bytes}
 use Rattle.listing.specs.Listing.{mostInput}
 use Rattle.desk.specs.declared.replies.Rest.{Rest}
 use Rattle.desk.specs.declared.replies.Told.{Told}
-use Rattle.words.specs.Phrases.{bytes}
 use Rattle.words.specs.Numbers.{said, saidMost}
 use Rattle.words.specs.Calls.{callText, callMost}
 

@@ -12,7 +12,8 @@ use Rattle.state.specs.declared.kept.Stage.{Stage}
 use Rattle.state.specs.declared.kept.Stage.the-variants.{Blank, Gathering, Firm, Closed}
 use Rattle.state.specs.declared.kept.Enrolment.the-variants.{Vacant}
 use Rattle.state.specs.declared.kept.Unit.{Unit}
-use Rattle.state.specs.declared.kept.Declaration.the-variants.{Undeclared}
+use Rattle.state.specs.declared.kept.Declaration.{Declaration}
+use Rattle.state.specs.declared.kept.Declaration.the-variants.{Undeclared, Declared}
 use Rattle.state.specs.declared.kept.Reading.the-variants.{Unread}
 use Rattle.state.specs.declared.kept.Consumer.{Consumer}
 use Rattle.state.specs.declared.kept.CloseFigures.{CloseFigures}
@@ -68,6 +69,11 @@ unitAt us u = getD us (u - 1) freshUnit
 
 abbrev pub consumerAt : List Consumer → ℕ → Consumer
 consumerAt xs c = getD xs (c - 1) freshConsumer
+
+-- the firm demand in a declaration; "the undeclared have 0"
+abbrev pub firmDemandBy : Declaration → ℕ
+firmDemandBy Undeclared = 0
+firmDemandBy (Declared f) = f .df
 
 -- where the balance of a producer and a consumer stands
 abbrev pub cellOf : ℕ → ℕ → ℕ

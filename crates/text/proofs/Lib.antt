@@ -1,3 +1,5 @@
 -- Laws of text in a buffer.
 pub mod Putting
 pub mod Joining
+pub mod Pieces
+pub mod Alignment

@@ -1,2 +1,3 @@
 -- Definitions of text in a buffer.
 pub mod Text
+pub mod Columns

@@ -2,12 +2,19 @@
 use mathlib.Core.Path.{_≡_}
 use mathlib.Core.List.{List, [], _∷_, _++_}
 use Prim.Native.Nat.{ℕ, zero, suc, _+_, _-_, _*_, _/_, _%_, _≤_}
+use Prim.Native.Char.{code}
+use Prim.Native.String.{String, [] as none, _∷_ as _then_}
 use lib.Dec.{ltb}
 use lib.ListN.{length, take}
 use Rattle.basis.specs.Choice.{pick}
 use Rattle.basis.specs.Numbers.{written}
 use Rattle.text.specs.declared.Amount.{Amount}
 use Rattle.text.specs.declared.Line.{Line}
+
+-- the bytes of a text
+unfoldable pub bytes : String → List ℕ
+bytes none = []
+bytes (letter then more) = code letter ∷ bytes more
 
 -- the text, at most so many bytes, was put over the old bytes from a place on, and r is the place behind it
 pub record Puts (most : ℕ) (text old : List ℕ) (at r : ℕ) (new : List ℕ) : Type 0 where

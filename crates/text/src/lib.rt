@@ -1,10 +1,13 @@
 // Text in a buffer of bytes: amounts in decimal digits, and lines of them.
 // For our own crates and not for buyers, as `basis` is: a function here requires that the buffer has room for what it puts.
+mod columns; // columns.rt: amounts in columns
+
 ghost use mathlib.Core.Path.{_≡_};
 ghost use mathlib.Core.List.{[], _∷_};
 ghost use Prim.Native.Nat.{_+_, _*_, _≤_};
 ghost use lib.ListN.{length, take};
 ghost use Rattle.text.specs.Text.{Puts, amountMost, spacedMost, lineAmounts, lineMost, decimal, amountOf, spaced, textOf, plain, numbered};
+pub use columns::put_column;
 
 // An amount with its sign: plus less minus.
 pub struct Amount {

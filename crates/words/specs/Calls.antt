@@ -9,8 +9,7 @@ use Rattle.quantities.specs.Limits.{greatestCount}
 use Rattle.table.specs.declared.calls.Call.{Call}
 use Rattle.table.specs.Records.{CallName, nameOf, mostFields, formOf, partsOf}
 use Rattle.table.specs.Records.{Year, Unit, Test, Availability, Declare, Fix, Commit, Release, Meter, Close}
-use Rattle.text.specs.Text.{decimal, joined, lineMost}
-use Rattle.words.specs.Phrases.{bytes}
+use Rattle.text.specs.Text.{decimal, joined, lineMost, bytes}
 
 -- the column Call of the table of records
 abbrev pub nameText : CallName → List ℕ

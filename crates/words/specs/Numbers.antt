@@ -2,8 +2,7 @@
 use mathlib.Core.List.{List, [], _∷_, _++_}
 use Prim.Native.Nat.{ℕ, _+_, _*_}
 use lib.ListN.{getD}
-use Rattle.text.specs.Text.{decimal, lineMost}
-use Rattle.words.specs.Phrases.{bytes}
+use Rattle.text.specs.Text.{decimal, lineMost, bytes}
 
 -- the table of "Numbered replies" in short words, from 0 on
 unfoldable pub meanings : List (List ℕ)

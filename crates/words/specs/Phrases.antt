@@ -1,15 +1,8 @@
 -- Words of at most 40 bytes.
-use mathlib.Core.List.{List, [], _∷_, _++_}
+use mathlib.Core.List.{List, _++_}
 use Prim.Native.Nat.{ℕ, _-_}
-use Prim.Native.Char.{code}
-use Prim.Native.String.{String, [] as none, _∷_ as _then_}
 use lib.ListN.{length, replicate}
 use Rattle.words.specs.declared.phrases.Phrase.{Phrase}
-
--- the bytes of a text
-unfoldable pub bytes : String → List ℕ
-bytes none = []
-bytes (letter then more) = code letter ∷ bytes more
 
 -- the most bytes of a phrase
 abbrev pub phraseMost : ℕ

@@ -2,9 +2,16 @@
 use crate::output::print;
 use libc::STDERR_FILENO;
 
+// What is printed of a journal.
+pub enum Asked {
+    Listing,
+    Replies,
+    Page,
+}
+
 // What the first argument asks for, or that it is a file; what begins with a minus sign and is no word is unknown.
 pub enum Word {
-    Replies,
+    Print(Asked),
     Help,
     Unknown,
     File,
@@ -35,7 +42,10 @@ fn is_option(argument: &[u8]) -> bool {
 
 pub fn word_of(argument: &[u8]) -> Word {
     if is_same(argument, b"replies") {
-        return Word::Replies;
+        return Word::Print(Asked::Replies);
+    }
+    if is_same(argument, b"page") {
+        return Word::Print(Asked::Page);
     }
     if is_same(argument, b"help") || is_same(argument, b"--help") || is_same(argument, b"-h") {
         return Word::Help;
@@ -50,7 +60,7 @@ pub fn word_of(argument: &[u8]) -> Word {
 pub fn usage() {
     io::write_all(
         STDERR_FILENO,
-        b"usage: yearbook [replies] [FILE] | yearbook help\n",
+        b"usage: yearbook [replies | page] [FILE] | yearbook help\n",
     );
 }
 
@@ -70,7 +80,7 @@ pub fn too_many() {
 
 // The words, on standard output.
 pub fn help() {
-    let _ = print(b"usage: yearbook [replies] [FILE] | yearbook help\n")
+    let _ = print(b"usage: yearbook [replies | page] [FILE] | yearbook help\n")
         && print(
             b"Reads a journal of the firm capacity book, FILE or standard input, of at most 65536 bytes.\n",
         )
@@ -80,11 +90,14 @@ pub fn help() {
         && print(
             b"  replies         each record's place, call, number and meaning, and where the reading stopped\n",
         )
+        && print(
+            b"  page            the printed close: a line of 36 columns for each declared consumer, 50 to a page\n",
+        )
         && print(b"  help            these words\n")
         && print(
             b"A journal holds binary records; scripts/journal of the sources makes them from lines of text.\n",
         )
         && print(
-            b"Where the program ends by itself, standard error is empty exactly when all was read, accepted and written.\n",
+            b"Where the program ends by itself, standard error is empty exactly when all was read and accepted, and all that was asked for was written.\n",
         );
 }

@@ -1,8 +1,9 @@
-// `yearbook [replies] [FILE] | yearbook help`: words, reading and writing. What is printed of a journal is made in `desk`.
+// `yearbook [replies | page] [FILE] | yearbook help`: words, reading and writing. What is printed of a journal is made in `desk`.
 mod arguments; // arguments.rt: what the program is asked for
 mod input; // input.rt: the input, read whole
 mod output; // output.rt: what goes to standard output and standard error
 
+use arguments::Asked;
 use arguments::Word;
 use arguments::help;
 use arguments::too_many;
@@ -14,7 +15,7 @@ use output::fail;
 use output::tell;
 
 // What the word asks for, of a descriptor that the name stands for.
-fn answer(is_replies: bool, descriptor: i32, name: &[u8]) {
+fn answer(asked: Asked, descriptor: i32, name: &[u8]) {
     let mut space = [0u8; listing::MOST_INPUT + 1]; // one byte more than is taken, so that longer input is known
     let taken = input::read_whole(descriptor, &mut space);
     if taken.is_failed {
@@ -22,27 +23,25 @@ fn answer(is_replies: bool, descriptor: i32, name: &[u8]) {
         return;
     }
     let count = taken.count;
-    tell(is_replies, &space[..count]);
+    tell(asked, &space[..count]);
 }
 
-// What the word asks for, of a file. A file that stands alone may be a mistyped word.
-fn answer_file(is_replies: bool, path: &[u8]) {
+// What the word asks for, of a file; answers whether the file could be opened.
+fn answer_file(asked: Asked, path: &[u8]) -> bool {
     let descriptor = os::open_read(path);
     if descriptor < 0 {
         fail(path);
-        if !is_replies {
-            usage();
-        }
-        return;
+        return false;
     }
-    answer(is_replies, descriptor, path);
+    answer(asked, descriptor, path);
     libc::close(descriptor);
+    true
 }
 
 fn main() {
     let count = os::arg_count();
     if count < 2 {
-        answer(false, STDIN_FILENO, b"standard input");
+        answer(Asked::Listing, STDIN_FILENO, b"standard input");
         return;
     }
     let mut first = io::buffer();
@@ -60,9 +59,9 @@ fn main() {
             help();
         }
         Word::Unknown => unknown(&first[..length]),
-        Word::Replies => {
+        Word::Print(asked) => {
             if count == 2 {
-                answer(true, STDIN_FILENO, b"standard input");
+                answer(asked, STDIN_FILENO, b"standard input");
                 return;
             }
             if count > 3 {
@@ -75,14 +74,17 @@ fn main() {
                 fail(b"second argument");
                 return;
             }
-            answer_file(true, &second[..size]);
+            answer_file(asked, &second[..size]);
         }
         Word::File => {
             if count > 2 {
                 unknown(&first[..length]);
                 return;
             }
-            answer_file(false, &first[..length]);
+            // a file that stands alone may be a mistyped word
+            if !answer_file(Asked::Listing, &first[..length]) {
+                usage();
+            }
         }
     }
 }

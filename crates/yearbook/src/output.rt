@@ -1,10 +1,12 @@
 // What goes to standard output, and what to standard error.
 ghost use Prim.Native.Nat.{_<_};
+use crate::arguments::Asked;
 use desk::LONGEST_FINDINGS;
 use desk::LONGEST_REPLY;
 use desk::Rest;
 use desk::all_replies;
 use desk::put_desk;
+use desk::put_printed;
 use desk::put_reply;
 use libc::STDERR_FILENO;
 use libc::STDOUT_FILENO;
@@ -49,7 +51,7 @@ fn print_replies(input: &[u8]) {
 }
 
 // What is found wrong with an input, and then its listing or the replies: who reads these may leave, as `head` does, and end the program.
-pub fn tell(is_replies: bool, input: &[u8]) {
+fn tell_desk(is_replies: bool, input: &[u8]) {
     let mut output = [0u8; LONGEST];
     let mut findings = [0u8; LONGEST_FINDINGS];
     let sizes = put_desk(input, &mut output, &mut findings);
@@ -60,5 +62,25 @@ pub fn tell(is_replies: bool, input: &[u8]) {
     } else {
         let size = sizes.output;
         print(&output[..size]);
+    }
+}
+
+// What is found wrong with an input, and then its printed close.
+fn tell_page(input: &[u8]) {
+    let mut output = [0u8; LONGEST];
+    let mut findings = [0u8; LONGEST_FINDINGS];
+    let sizes = put_printed(input, &mut output, &mut findings);
+    let found = sizes.findings;
+    io::write_all(STDERR_FILENO, &findings[..found]);
+    let size = sizes.output;
+    print(&output[..size]);
+}
+
+// What is asked for of an input.
+pub fn tell(asked: Asked, input: &[u8]) {
+    match asked {
+        Asked::Listing => tell_desk(false, input),
+        Asked::Replies => tell_desk(true, input),
+        Asked::Page => tell_page(input),
     }
 }

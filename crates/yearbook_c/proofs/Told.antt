@@ -1,15 +1,18 @@
--- The listing of a journal's run, told to C or not.
-use mathlib.Core.Path.{_≡_, sym, ap, _∙_}
+-- The listing and the printed close of a journal's run, told to C or not.
+use mathlib.Core.Path.{_≡_, refl, sym, ap, _∙_}
 use mathlib.Core.List.{List}
 use Prim.Native.Nat.{ℕ}
-use borrow.Author.Tests.{ne-eqb}
+use borrow.Author.Tests.{eq-eqb, ne-eqb}
 use lib.ListN.{length}
 use Rattle.journal.specs.declared.outcome.Run.{Run}
 use Rattle.journal.specs.Run.{runOf}
 use Rattle.listing.specs.declared.Listed.{Listed}
 use Rattle.listing.specs.Listing.{listingOf, listedOf, Lists}
 use Rattle.listing.proofs.Answers.{listed-size}
-use Rattle.yearbook_c.specs.Yearbook.{ListsJournal}
+use Rattle.state.specs.declared.kept.Book.{Book}
+use Rattle.page.specs.declared.Printed.{Printed}
+use Rattle.page.specs.Page.{printNumber, printedOf, Prints}
+use Rattle.yearbook_c.specs.Yearbook.{ListsJournal, PrintsJournal}
 
 module _ (s : List ℕ) {old new : List ℕ} {run : Run} {r : Listed} (before : ℕ) (e : run ≡ runOf s) (h : Lists (listingOf run) old r new) where
   lists : Lists (listingOf (runOf s)) old r new
@@ -35,4 +38,30 @@ module _ (s : List ℕ) {old new : List ℕ} {run : Run} {r : Listed} (before : 
         size =
             ap (λ (x : Listed). x .size) (lists .answer) ∙ listed-size (listingOf (runOf s)) (length old) (sym a ∙ n);
         short = lists .short;
+      }
+
+module _ (s : List ℕ) {old new : List ℕ} {b : Book} {r : Printed} (before : ℕ) (e : b ≡ runOf s .book) (h : Prints b old r new) where
+  prints : Prints (runOf s .book) old r new
+  prints = rw e at h
+
+  answered : r .number ≡ printNumber (runOf s .book) (length old)
+  unfolding printedOf
+  answered = ap (λ (x : Printed). x .number) (prints .answer)
+
+  -- nothing is told
+  pub page-refused : (r .number ≡ 0 → ⊥) → PrintsJournal s old before (r .number) new before
+  page-refused n =
+      record { answer = answered; bytes = prints .bytes-left; size = rw (ne-eqb (r .number) 0 n); short = prints .short }
+
+  -- the size is told
+  pub page-put : r .number ≡ 0 → PrintsJournal s old before 0 new (r .size)
+  unfolding printedOf
+  page-put n =
+      record {
+        answer = sym n ∙ answered;
+        bytes = prints .bytes-left;
+        size =
+            ap (λ (x : Printed). x .size) (prints .answer)
+            ∙ rw (eq-eqb (printNumber (runOf s .book) (length old)) 0 (sym answered ∙ n)) refl;
+        short = prints .short;
       }

@@ -2,7 +2,9 @@
 
 use super::CASE_J;
 use crate::desk::{desk, parts};
+use crate::journal;
 use crate::listing;
+use crate::page;
 use crate::random;
 use crate::text;
 
@@ -109,6 +111,29 @@ fn a_test_shows_at_most_96_readings() {
     }
 }
 
+/// What standard error gets behind the findings where there is no page.
+const NO_PAGE: &str = "yearbook: no page, the year is not closed: 4 not in this stage\n";
+
+#[test]
+fn a_page_has_the_findings_beside_it() {
+    let journal = text::records(CASE_J).unwrap();
+    for more in ["", "close 890\n"] {
+        let said = desk(&[&journal[..], &text::records(more).unwrap()].concat());
+        assert_eq!(Ok(said.page), page::page(&journal::run(&journal).book));
+        assert_eq!(said.page_findings, said.findings);
+    }
+}
+
+#[test]
+fn no_page_is_said_behind_the_findings() {
+    let journal = text::records(CASE_J).unwrap();
+    for length in [0, 7, 122, 168, 171] {
+        let said = desk(&journal[..length]);
+        assert_eq!((said.page, said.page_findings), (String::new(), format!("{}{NO_PAGE}", said.findings)));
+    }
+    assert_eq!(desk(b"").page_findings, NO_PAGE);
+}
+
 #[test]
 fn an_input_of_more_than_65_536_bytes_is_not_read() {
     let full = text::records("close 1\n").unwrap().repeat(65_536 / 4);
@@ -116,16 +141,17 @@ fn an_input_of_more_than_65_536_bytes_is_not_read() {
     assert!(replies.ends_with("\n65532 close 1: 4 not in this stage\n65536 end of journal\n"));
     assert_eq!(findings, "yearbook: 16384 of 16384 records refused, the first at byte 0: 4 not in this stage\n");
     let expected = ("X\n".to_string(), "yearbook: input longer than 65536 bytes, nothing read\n".to_string());
-    assert_eq!(said(&[&full[..], b"C"].concat()), expected);
+    let longer = [&full[..], b"C"].concat();
+    assert_eq!(said(&longer), expected);
+    assert_eq!((desk(&longer).page, desk(&longer).page_findings), expected);
 }
 
 #[test]
 fn the_parts_follow_each_other_behind_their_lengths() {
-    assert_eq!(
-        parts(b"Y"),
-        b"8\nR 0 0 0\n27\n0 stop: 1 record cut short\n56\nyearbook: reading stopped at byte 0: 1 record cut short\n"
-    );
-    assert_eq!(parts(b""), b"8\nR 0 0 0\n17\n0 end of journal\n0\n");
+    let stopped = "yearbook: reading stopped at byte 0: 1 record cut short\n";
+    let expected = "8\nR 0 0 0\n27\n0 stop: 1 record cut short\n".to_string();
+    assert_eq!(parts(b"Y"), format!("{expected}56\n{stopped}0\n119\n{stopped}{NO_PAGE}").as_bytes());
+    assert_eq!(parts(b""), format!("8\nR 0 0 0\n17\n0 end of journal\n0\n0\n63\n{NO_PAGE}").as_bytes());
 }
 
 #[test]

@@ -2,6 +2,7 @@
 
 mod case_j;
 mod desk;
+mod page;
 mod replies;
 mod stages;
 mod thirteen;

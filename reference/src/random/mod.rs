@@ -12,6 +12,7 @@ use std::path::Path;
 
 use crate::call::{Call, Year, FORMS};
 use crate::listing::MOST_BYTES;
+use crate::range::CONSUMERS;
 use draft::Draft;
 use draw::Draw;
 
@@ -24,11 +25,12 @@ pub fn write_journals(seed: u64, count: u64, folder: &Path) -> io::Result<()> {
     Ok(())
 }
 
-/// One journal of a seed: a whole season, one cut or damaged, one about the program's limit, or calls in any order.
+/// One journal of a seed: a whole season, one about the end of a page, cut or damaged, one about the program's limit, or calls in any order.
 pub fn journal(seed: u64, number: u64) -> Vec<u8> {
     let mut draft = Draft::new(Draw::new(seed, number));
     match draft.draw.between(0, 999) {
-        0..=819 => season(&mut draft),
+        0..=789 => season(&mut draft),
+        790..=819 => about_a_page(&mut draft),
         820..=879 => {
             season(&mut draft);
             cut(&mut draft);
@@ -57,6 +59,17 @@ fn season(draft: &mut Draft) {
             draft.put_record(&record);
         }
     }
+}
+
+/// 02 "A1": consumers alone, from 1 to 64 of them and often about the 50 of a page, up to the close.
+fn about_a_page(draft: &mut Draft) {
+    let any = draft.draw.byte(1, CONSUMERS as u8);
+    draft.style.consumers = draft.draw.pick(&[49, 50, 51, 52, any, any, any, any]);
+    draft.style.units = 0;
+    season::open(draft);
+    season::gather(draft, MOST_BYTES);
+    season::fix(draft);
+    season::close(draft);
 }
 
 /// 01 "Numbered replies", 1: the journal up to any of its bytes.
@@ -153,5 +166,17 @@ mod tests {
         }
         assert!(met.iter().all(|&times| times >= 5), "{met:?}");
         assert!(closed > 450);
+    }
+
+    #[test]
+    fn closed_years_have_few_and_many_consumers_and_those_about_the_end_of_a_page() {
+        let mut years = [0; CONSUMERS + 1];
+        for number in 0..2_000 {
+            let book = run_with(&journal(1, number), |_, _, _| {}).book;
+            if book.stage == Stage::Closed {
+                years[book.consumers.iter().flatten().count()] += 1;
+            }
+        }
+        assert!([1, 3, 49, 50, 51, 52, 63, 64].iter().all(|&consumers| years[consumers] >= 2), "{years:?}");
     }
 }

@@ -6,7 +6,7 @@ use borrow.Author.Needs.{needs}
 use borrow.Author.Tests.{lt-ltb, le-ltb}
 use Rattle.quantities.specs.Limits.{greatestPower, greatestPrice}
 use Rattle.close.specs.Close.{chargeBy}
-use Rattle.close.proofs.CloseLaws.{priced-at-most}
+use Rattle.close.proofs.Bounds.{priced-at-most}
 use Rattle.close.proofs.money.charge.Statement.{statement}
 use Rattle.close.proofs.money.charge.Tie as tie
 

@@ -3,9 +3,9 @@ use native.Mathlib.Omega.{arith}
 use borrow.Author.Needs.{needs}
 use denote.Ref.{now}
 use Rattle.text.proofs.Putting.{puts-none, puts-within}
-use Rattle.words.specs.Phrases.{bytes}
+use Rattle.text.specs.Text.{bytes}
 use Rattle.desk.specs.Findings.{refusals}
-use Rattle.words.proofs.Pieces.{puts-more}
+use Rattle.text.proofs.Pieces.{puts-more}
 use Rattle.desk.proofs.findings.put_refusals.Statement.{statement}
 use Rattle.desk.proofs.findings.put_refusals.Tie as tie
 

@@ -4,9 +4,9 @@ use borrow.Author.Needs.{needs}
 use borrow.Author.Tests.{eq-eqb, ne-eqb}
 use denote.Ref.{now}
 use Rattle.text.proofs.Putting.{puts-none, puts-within}
-use Rattle.words.specs.Phrases.{bytes}
+use Rattle.text.specs.Text.{bytes}
 use Rattle.desk.specs.Findings.{stopping}
-use Rattle.words.proofs.Pieces.{puts-more}
+use Rattle.text.proofs.Pieces.{puts-more}
 use Rattle.desk.proofs.findings.put_stopping.Statement.{statement}
 use Rattle.desk.proofs.findings.put_stopping.Tie as tie
 

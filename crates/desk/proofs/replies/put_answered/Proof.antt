@@ -2,9 +2,9 @@
 use native.Mathlib.Omega.{arith}
 use borrow.Author.Needs.{needs}
 use Rattle.text.proofs.Putting.{puts-within}
-use Rattle.words.specs.Phrases.{bytes}
+use Rattle.text.specs.Text.{bytes}
 use Rattle.desk.specs.Replies.{replyLine}
-use Rattle.words.proofs.Pieces.{puts-more}
+use Rattle.text.proofs.Pieces.{puts-more}
 use Rattle.desk.proofs.replies.put_answered.Statement.{statement}
 use Rattle.desk.proofs.replies.put_answered.Tie as tie
 

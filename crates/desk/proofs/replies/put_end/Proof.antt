@@ -3,9 +3,9 @@ use native.Mathlib.Omega.{arith}
 use borrow.Author.Needs.{needs}
 use borrow.Author.Tests.{eq-eqb, ne-eqb}
 use Rattle.text.proofs.Putting.{puts-within}
-use Rattle.words.specs.Phrases.{bytes}
+use Rattle.text.specs.Text.{bytes}
 use Rattle.desk.specs.Replies.{endLine}
-use Rattle.words.proofs.Pieces.{puts-more}
+use Rattle.text.proofs.Pieces.{puts-more}
 use Rattle.desk.proofs.replies.put_end.Statement.{statement}
 use Rattle.desk.proofs.replies.put_end.Tie as tie
 

@@ -1,7 +1,7 @@
 -- `words::name_of` meets its contract: each arm has the name of its call. Assumes nothing.
 use native.Mathlib.Omega.{arith}
 use borrow.Author.Needs.{needs}
-use Rattle.words.specs.Phrases.{bytes}
+use Rattle.text.specs.Text.{bytes}
 use Rattle.words.specs.Calls.{callName}
 use Rattle.words.proofs.calls.name_of.Statement.{statement}
 use Rattle.words.proofs.calls.name_of.Tie as tie

@@ -4,7 +4,8 @@ use borrow.Author.Needs.{needs}
 use Rattle.table.specs.Ranges.{fieldsOf}
 use Rattle.text.proofs.Putting.{puts-within}
 use Rattle.words.specs.Calls.{callName, callText}
-use Rattle.words.proofs.Pieces.{puts-more, puts-phrase}
+use Rattle.text.proofs.Pieces.{puts-more}
+use Rattle.words.proofs.Pieces.{puts-phrase}
 use Rattle.words.proofs.calls.put_call.Statement.{statement}
 use Rattle.words.proofs.calls.put_call.Tie as tie
 

@@ -4,7 +4,7 @@ use mathlib.Core.List.{[]}
 use Prim.Native.Nat.{ℕ, _+_, _≤_}
 use native.Mathlib.Omega.{arith}
 use lib.ListN.{List·getD-eq-default}
-use Rattle.words.specs.Phrases.{bytes}
+use Rattle.text.specs.Text.{bytes}
 use Rattle.words.specs.Numbers.{meanings, meaning}
 use Rattle.words.proofs.numbers.meaning_of.Statement.{statement}
 use Rattle.words.proofs.numbers.meaning_of.Tie as tie

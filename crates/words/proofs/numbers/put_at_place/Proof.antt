@@ -2,9 +2,9 @@
 use native.Mathlib.Omega.{arith}
 use borrow.Author.Needs.{needs}
 use Rattle.text.proofs.Putting.{puts-within}
-use Rattle.words.specs.Phrases.{bytes}
+use Rattle.text.specs.Text.{bytes}
 use Rattle.words.specs.Numbers.{atPlace}
-use Rattle.words.proofs.Pieces.{puts-more}
+use Rattle.text.proofs.Pieces.{puts-more}
 use Rattle.words.proofs.numbers.put_at_place.Statement.{statement}
 use Rattle.words.proofs.numbers.put_at_place.Tie as tie
 

@@ -3,7 +3,8 @@ use native.Mathlib.Omega.{arith}
 use borrow.Author.Needs.{needs}
 use Rattle.text.proofs.Putting.{puts-within}
 use Rattle.words.specs.Numbers.{meaning, said}
-use Rattle.words.proofs.Pieces.{puts-more, puts-phrase}
+use Rattle.text.proofs.Pieces.{puts-more}
+use Rattle.words.proofs.Pieces.{puts-phrase}
 use Rattle.words.proofs.numbers.put_said.Statement.{statement}
 use Rattle.words.proofs.numbers.put_said.Tie as tie
 

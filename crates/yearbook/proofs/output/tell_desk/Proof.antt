@@ -1,9 +1,9 @@
--- `yearbook::tell` is safe and ends: what was put fits its buffer. Assumes nothing.
+-- `yearbook::tell_desk` is safe and ends: what was put fits its buffer. Assumes nothing.
 use mathlib.Core.Path.{sym}
 use borrow.Author.Needs.{needs}
 use lib.Seq.{length-take-le}
-use Rattle.yearbook.proofs.output.tell.Statement.{statement}
-use Rattle.yearbook.proofs.output.tell.Tie as tie
+use Rattle.yearbook.proofs.output.tell_desk.Statement.{statement}
+use Rattle.yearbook.proofs.output.tell_desk.Tie as tie
 
 slice-aggregate-write-all : tie.Need-slice-aggregate-write-all
 slice-aggregate-write-all c =
@@ -15,8 +15,8 @@ slice-aggregate-print c =
     let p = c .before .before .before .before .put-desk in
     sym (length-take-le (p .result .output) (p .last .1 .0) (p .ensures .output-fits))
 
-pub tell-spec : {M : Type 1} → statement M
-tell-spec =
+pub tell-desk-spec : {M : Type 1} → statement M
+tell-desk-spec =
     tie.close
     (tie.spec
     (λ c κs. search needs)

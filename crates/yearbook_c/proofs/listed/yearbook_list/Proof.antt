@@ -3,8 +3,8 @@ use native.Mathlib.Omega.{arith}
 use borrow.Author.Needs.{needs}
 use denote.Ref.{now}
 use Rattle.yearbook_c.proofs.Told.{journal-refused, journal-put}
-use Rattle.yearbook_c.proofs.yearbook_list.Statement.{statement}
-use Rattle.yearbook_c.proofs.yearbook_list.Tie as tie
+use Rattle.yearbook_c.proofs.listed.yearbook_list.Statement.{statement}
+use Rattle.yearbook_c.proofs.listed.yearbook_list.Tie as tie
 
 run-requires : tie.Need-run-requires
 run-requires c κs = search needs

@@ -1,0 +1,29 @@
+-- `yearbook::tell_page` is safe and ends: what was put fits its buffer. Assumes nothing.
+use mathlib.Core.Path.{sym}
+use borrow.Author.Needs.{needs}
+use lib.Seq.{length-take-le}
+use Rattle.yearbook.proofs.output.tell_page.Statement.{statement}
+use Rattle.yearbook.proofs.output.tell_page.Tie as tie
+
+slice-aggregate-write-all : tie.Need-slice-aggregate-write-all
+slice-aggregate-write-all c =
+    let p = c .before .put-printed in
+    sym (length-take-le (p .result .findings) (p .last .1 .1 .0) (p .ensures .findings-fit))
+
+slice-aggregate-print : tie.Need-slice-aggregate-print
+slice-aggregate-print c =
+    let p = c .before .before .before .put-printed in
+    sym (length-take-le (p .result .output) (p .last .1 .0) (p .ensures .output-fits))
+
+pub tell-page-spec : {M : Type 1} → statement M
+tell-page-spec =
+    tie.close
+    (tie.spec
+    (λ c κs. search needs)
+    (λ c. search needs)
+    slice-aggregate-write-all
+    (λ c κs. search needs)
+    (λ c. search needs)
+    slice-aggregate-print
+    (λ c κs. search needs)
+    (λ c. search needs))
