@@ -2,6 +2,7 @@
 
 pub mod book;
 pub mod call;
+pub mod card;
 pub mod cases;
 pub mod charge;
 pub mod desk;

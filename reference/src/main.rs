@@ -9,11 +9,11 @@ use std::process::ExitCode;
 use reference::field::decimal;
 use reference::lines::Lines;
 use reference::listing::{self, MOST_BYTES};
-use reference::{cases, desk, lines, random, text};
+use reference::{card, cases, desk, lines, random, text};
 
 /// The subcommands.
-const USAGE: &str = "usage: reference yearbook | desk [FILE..] | page [FILE..] | plant | record | replies | text | \
-                     lines | random SEED COUNT DIR";
+const USAGE: &str = "usage: reference yearbook | desk [FILE..] | page [FILE..] | plant | counts | record | replies | \
+                     text | lines | random SEED COUNT DIR";
 
 /// 01 "Journal in, listing out": the bytes from which the program sees that its input is too long.
 const ENOUGH: u64 = MOST_BYTES as u64 + 1;
@@ -52,6 +52,7 @@ fn answer(words: &[&str]) -> Result<Answer, String> {
         ["desk", files @ ..] => each(files, ENOUGH, desk::parts)?,
         ["page", files @ ..] => each(files, u64::MAX, cases::page)?,
         ["plant"] => cases::plant(&input_text()?)?.into_bytes(),
+        ["counts"] => card::counts().into_bytes(),
         ["record"] => cases::records(&input(u64::MAX)?)?.into_bytes(),
         ["replies"] => cases::replies(&input(u64::MAX)?),
         ["text"] => text::records(input(u64::MAX)?)?,

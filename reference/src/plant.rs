@@ -47,6 +47,11 @@ impl Minutes {
     }
 }
 
+/// 01 "Maximum power" (2.3.5): whether the count is 80 % of TC or more; exactly 80 % counts as reached.
+pub fn reached(count: u64, tc: u64) -> bool {
+    5 * count >= 4 * tc
+}
+
 /// 01 "The book": what is kept of one component.
 #[derive(Clone, Copy, Debug, Default, PartialEq, Eq)]
 pub struct Component {
@@ -67,7 +72,7 @@ impl Component {
             return Err(Number::Count);
         }
         let energy: u64 = test.kwh().map(u64::from).sum();
-        let reached = 5 * count >= 4 * tc;
+        let reached = reached(count, tc);
         let divisor = match test.ending {
             0 => Some(tc),
             1 => reached.then_some(count),

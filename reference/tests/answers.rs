@@ -78,7 +78,7 @@ fn output_that_cannot_be_written_is_said() {
 
 #[test]
 fn other_words_give_the_usage() {
-    for words in [&["text", "k.txt"][..], &["lines", "j.journal"], &["records"], &[]] {
+    for words in [&["text", "k.txt"][..], &["lines", "j.journal"], &["counts", "96"], &["records"], &[]] {
         let answer = answer(words, b"", Stdio::piped());
         assert_eq!((answer.stdout, answer.status.code()), (Vec::new(), Some(1)));
         assert!(String::from_utf8_lossy(&answer.stderr).starts_with("usage: reference "));

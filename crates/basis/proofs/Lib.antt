@@ -2,6 +2,7 @@
 pub mod Choice
 pub mod Sums
 pub mod Tables
+pub mod Entries
 pub mod Numbers
 pub mod Answers
 pub mod Filling

@@ -26,11 +26,11 @@ use Rattle.power.proofs.Readings.{energy-at-most}
 use Rattle.power.proofs.Accepted.{AcceptedTest, accepted-test, count-within-time}
 
 -- a cap only lowers, and is kept
-pub capped-at-most : (cap : Cap) (p : Kw) → capped cap p .0 ≤ p .0
+capped-at-most : (cap : Cap) (p : Kw) → capped cap p .0 ≤ p .0
 capped-at-most Free p = le-refl (p .0)
 capped-at-most (At most) p = min-le-left (p .0) (most .0)
 
-pub capped-at-cap : (most p : Kw) → capped (At most) p .0 ≤ most .0
+capped-at-cap : (most p : Kw) → capped (At most) p .0 ≤ most .0
 capped-at-cap most p = min-le-right (p .0) (most .0)
 
 -- a choice keeps a limit that both sides keep
@@ -46,7 +46,7 @@ module _ (trip : Bool) (ending tc count : ℕ) (bytes : List ℕ) (k : AcceptedT
       (le-trans (energy-at-most greatestReading count bytes (k .small)) (mul-le-mul-right greatestReading h))
 
   -- what an accepted test gives is at most the power of the greatest reading in every quarter
-  pub measured-at-most : powerOf (measuredOf trip ending tc count (energyOf count bytes)) .0 ≤ quartersOfHour * greatestReading
+  measured-at-most : powerOf (measuredOf trip ending tc count (energyOf count bytes)) .0 ≤ quartersOfHour * greatestReading
   unfolding measuredOf
   measured-at-most =
       let most : ℕ = quartersOfHour * greatestReading in
@@ -65,7 +65,7 @@ after-test-within most cap ending x Nothing old new = old
 after-test-within most cap ending x (Power p) old new = new
 
 module _ (x : Component) (cap : Cap) (ending tc count : ℕ) (bytes : List ℕ) where
-  pub test-within : (most : ℕ) → maximumPower x .0 ≤ most → (AcceptedTest ending tc count bytes → capped cap (powerOf (measuredBy x ending tc count bytes)) .0 ≤ most) → maximumPower (testOf x cap ending tc count bytes .component) .0 ≤ most
+  test-within : (most : ℕ) → maximumPower x .0 ≤ most → (AcceptedTest ending tc count bytes → capped cap (powerOf (measuredBy x ending tc count bytes)) .0 ≤ most) → maximumPower (testOf x cap ending tc count bytes .component) .0 ≤ most
   unfolding testOf
   test-within most old new = go (eqb (testNumber ending tc count bytes) 0) refl
     where

@@ -5,10 +5,10 @@ use mathlib.Core.Logic.{_⊎_, inl, inr}
 use mathlib.Core.List.{List}
 use Prim.Native.Nat.{ℕ, _+_, _≤_, _<_, zero-le}
 use native.Mathlib.Nat.{le-refl}
-use lib.ListN.{length, getD}
+use lib.ListN.{getD}
 use Rattle.basis.specs.Choice.{pick}
 use Rattle.basis.proofs.Sums.{sumUp-more}
-use Rattle.basis.proofs.Tables.{length-tab, getD-tab}
+use Rattle.basis.proofs.Tables.{getD-tab}
 use Rattle.quantities.specs.Flags.{flagged, forcedGeneration}
 use Rattle.plant.specs.Efficient.{counted, yearSum, efficientOffer, efficientOffers}
 use Rattle.plant.specs.Promises.{EfficientOrNone}
@@ -33,10 +33,6 @@ pub efficient-at-most-offer : (year flags offer : ℕ) → efficientOffer year f
 efficient-at-most-offer year flags offer = below (pick (flagged year flags) true (flagged forcedGeneration flags)) offer
 
 module _ (n year : ℕ) (flags offers : List ℕ) where
-  pub length-efficient : length (efficientOffers n year flags offers) ≡ n
-  unfolding efficientOffers
-  length-efficient = length-tab (λ i. efficientOffer year (getD flags i 0) (getD offers i 0)) n
-
   -- the efficient offer of each unit
   pub efficient-of-unit : (i : ℕ) → i < n → getD (efficientOffers n year flags offers) i 0 ≡ efficientOffer year (getD flags i 0) (getD offers i 0)
   unfolding efficientOffers

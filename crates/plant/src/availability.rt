@@ -103,7 +103,7 @@ pub(crate) fn times_c(power: Kw, availability: Availability) -> Kw
 }
 
 // The maximum power of a component times its c.
-pub fn available_power(x: Component) -> Kw
+pub(crate) fn available_power(x: Component) -> Kw
     ensures { λ r. ⌜ r ≡ availablePower x ⌝ }
 {
     let availability = x.availability;

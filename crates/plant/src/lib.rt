@@ -3,7 +3,6 @@ mod availability; // availability.rt: the minutes of an availability, and power 
 mod efficient; // efficient.rt: the efficient offers of all units
 mod offer; // offer.rt: the firm offer of the eight kinds
 
-pub use availability::available_power;
 pub use availability::set_availability;
 pub use efficient::Efficient;
 pub use efficient::efficient_offers;
@@ -19,7 +18,6 @@ pub use power::Kwh;
 pub use power::Measured;
 pub use power::Minutes;
 pub use power::fresh_component;
+pub use power::least_count;
 pub use power::maximum_power;
-pub use power::over_hours;
 pub use power::test;
-pub use power::test_in_range;

@@ -1,7 +1,7 @@
 // Runs the worked examples on standard input through Level Plant, and writes one line for each.
 //
 //     0 given pic                                         a new unit, without an answer
-//     1 component ending tc count length readings..       a test: number, has a result, result, memory
+//     1 component ending tc count length readings..       a test: number, has a result, maximum power, memory
 //     2 component hd hmp hif hed                          an availability: number
 //     3 kind report ppr e1 e2 cap nhrm nhmd ndhmd         the firm offer
 //     4 flags offer flags offer ..                        the chosen year, the efficient offers
@@ -116,16 +116,14 @@ fn readings_of(values: [u32; MOST]) -> [u8; BYTES]
     bytes
 }
 
-// Writes whether a component has a result, the result and the memory.
+// Writes whether a component has a result, its maximum power and the memory.
 fn write_component(x: Component) {
     let result = x.result;
     match result {
-        Measured::Nothing => write(0, b" 0"),
-        Measured::Power(p) => {
-            write(1, b" ");
-            write(p.0, b"");
-        }
+        Measured::Nothing => write(0, b" "),
+        Measured::Power(_) => write(1, b" "),
     }
+    write(plant::maximum_power(x).0, b"");
     if x.void_trip {
         io::write_all(1, b" 1\n");
     } else {

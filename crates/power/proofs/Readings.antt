@@ -14,7 +14,7 @@ use Rattle.basis.proofs.Tables.{length-tab, getD-tab}
 use Rattle.power.specs.Ranges.{readingsOf}
 use Rattle.power.specs.Power.{energyOf}
 
-pub length-readings : (count : ℕ) (s : List ℕ) → length (readingsOf count s) ≡ count
+length-readings : (count : ℕ) (s : List ℕ) → length (readingsOf count s) ≡ count
 length-readings count s = length-tab (λ i. numberAt 4 s (4 * i)) count
 
 -- the readings from the one at i on

@@ -6,9 +6,10 @@ ghost use lib.Dec.{eqb};
 ghost use lib.ListN.{length};
 ghost use Rattle.basis.specs.Choice.{pick};
 ghost use Rattle.basis.specs.Sums.{allAtMost};
-ghost use Rattle.quantities.specs.Limits.{greatestReading, greatestCount, leastTime};
+ghost use Rattle.quantities.specs.Limits.{greatestReading, greatestCount, greatestTime, leastTime};
 ghost use Rattle.power.specs.Ranges.{readingsOf};
-ghost use Rattle.power.specs.Power.{maximumPower, reaches, countFits, testNumber, energyOf, outsideTrip, ownTrip, measuredOf, capped, afterTest, testOf};
+ghost use Rattle.power.specs.Power.{maximumPower, countFits, testNumber, energyOf, outsideTrip, ownTrip, measuredOf, capped, afterTest, testOf};
+use crate::card::reached;
 use crate::component::Answer;
 use crate::component::Cap;
 use crate::component::Component;
@@ -28,13 +29,6 @@ pub fn maximum_power(x: Component) -> Kw
         Measured::Nothing => Kw(0),
         Measured::Power(p) => p,
     }
-}
-
-// The count reaches 80 % of TC.
-fn reached(count: u32, tc: u32) -> bool
-    ensures { λ r. ⌜ r ≡ reaches count tc ⌝ }
-{
-    4 * tc as u64 <= 5 * count as u64
 }
 
 // The count fits the ending: TC where complete, less where tripped.
@@ -73,7 +67,7 @@ fn energy_of(readings: &[u8], count: usize) -> Kwh
 
 // Ending 1, a trip that is not the plant's doing.
 fn outside_trip(tc: u32, count: u32, energy: Kwh) -> Measured
-    requires { ⌜ leastTime ≤ tc ⌝ }
+    requires { ⌜ (leastTime ≤ tc) × (tc ≤ greatestTime) ⌝ }
     ensures { λ r. ⌜ r ≡ outsideTrip tc count energy ⌝ }
 {
     if reached(count, tc) {
@@ -84,7 +78,7 @@ fn outside_trip(tc: u32, count: u32, energy: Kwh) -> Measured
 
 // Ending 2, a trip of the plant's doing. trip: the last such test was void, with no result since.
 fn own_trip(trip: bool, tc: u32, count: u32, energy: Kwh) -> Measured
-    requires { ⌜ leastTime ≤ tc ⌝ }
+    requires { ⌜ (leastTime ≤ tc) × (tc ≤ greatestTime) ⌝ }
     ensures { λ r. ⌜ r ≡ ownTrip trip tc count energy ⌝ }
 {
     let power = over_quarters(energy, tc);
@@ -100,7 +94,7 @@ fn own_trip(trip: bool, tc: u32, count: u32, energy: Kwh) -> Measured
 
 // What a test gives, nothing where it is void.
 fn measured_of(trip: bool, ending: u32, tc: u32, count: u32, energy: Kwh) -> Measured
-    requires { ⌜ leastTime ≤ tc ⌝ }
+    requires { ⌜ (leastTime ≤ tc) × (tc ≤ greatestTime) ⌝ }
     ensures { λ r. ⌜ r ≡ measuredOf trip ending tc count energy ⌝ }
 {
     match ending {

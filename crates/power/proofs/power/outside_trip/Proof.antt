@@ -5,10 +5,10 @@ use Rattle.power.proofs.power.outside_trip.Statement.{statement}
 use Rattle.power.proofs.power.outside_trip.Tie as tie
 
 reached-requires : tie.Need-reached-requires
-reached-requires c κs = tt
+reached-requires c κs = c .pre
 
 over-quarters-requires : tie.Need-over-quarters-requires
-over-quarters-requires c κs = reached-hour _ _ (c .before .before .pre) (sym (c .before .reached .ensures) ∙ c .if1 .taken)
+over-quarters-requires c κs = reached-hour _ _ (c .before .before .pre .0) (sym (c .before .reached .ensures) ∙ c .if1 .taken)
 
 returns : tie.Need-returns
 returns c = simp (c .over-quarters .ensures, sym (c .before .before .reached .ensures) ∙ c .before .if1 .taken)

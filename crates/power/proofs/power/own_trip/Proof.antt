@@ -8,7 +8,7 @@ over-quarters-requires : tie.Need-over-quarters-requires
 over-quarters-requires c κs = search needs
 
 reached-requires : tie.Need-reached-requires
-reached-requires c κs = tt
+reached-requires c κs = c .before .pre
 
 returns : tie.Need-returns
 returns c = simp (c .before .before .over-quarters .ensures, sym (c .before .reached .ensures) ∙ c .if1 .taken)

@@ -24,7 +24,8 @@ energy-of-requires c κs =
 measured-of-requires : tie.Need-measured-of-requires
 measured-of-requires c κs =
     let a = c .before .before .before .before .args in
-    accepted-test (a .ending) (a .tc) (a .count) (now (a .readings)) (sym (c .before .before .test-number .ensures) ∙ c .before .if1 .left) .least-time
+    let k = accepted-test (a .ending) (a .tc) (a .count) (now (a .readings)) (sym (c .before .before .test-number .ensures) ∙ c .before .if1 .left) in
+    (k .least-time, k .most-time)
 
 after-test-requires : tie.Need-after-test-requires
 after-test-requires c κs = tt

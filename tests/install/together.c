@@ -1,12 +1,14 @@
 /*
- * Calls both libraries in one program: writes the listing of a journal, then
- * an equal division of 10,000, an amount to a line.
+ * Calls all libraries in one program: writes the listing of a journal, then an
+ * equal division of 10,000, an amount to a line, then the card's count for the
+ * greatest full time.
  *
- * usage: both JOURNAL
+ * usage: together JOURNAL
  */
 #include <inttypes.h>
 #include <stdio.h>
 
+#include "plant.h"
 #include "share.h"
 #include "yearbook.h"
 
@@ -35,5 +37,6 @@ int main(int argc, char **argv)
             amount = amount << 8 | amounts[k * SHARE_AMOUNT_SIZE + i - 1];
         printf("%" PRIu64 "\n", amount);
     }
+    printf("%" PRIu32 "\n", plant_least_count(PLANT_TIME_MAX));
     return 0;
 }
