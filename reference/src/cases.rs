@@ -12,6 +12,7 @@ use crate::page;
 use crate::plant::{Component, Minutes, PowerTest};
 use crate::range::{self, UNITS};
 use crate::record;
+use crate::summary;
 
 /// 01 "The book": the one unit of the plant cases, its cap and its three components.
 #[derive(Default)]
@@ -201,6 +202,12 @@ pub fn page(journal: &[u8]) -> Vec<u8> {
     answer.into_bytes()
 }
 
+/// 02 "A3": the eight figures of a journal's run on a line.
+pub fn figures(journal: &[u8]) -> Vec<u8> {
+    let figures = summary::figures(&journal::run(journal)).map(|figure| figure.to_string());
+    format!("{}\n", figures.join(" ")).into_bytes()
+}
+
 #[cfg(test)]
 mod tests {
     use super::*;
@@ -255,5 +262,13 @@ mod tests {
         assert_eq!(page(&[&journal[..], b"Y"].concat()), expected.as_bytes());
         assert_eq!(page(&journal[..journal.len() - 1]), b"4 0\n");
         assert_eq!(page(b""), b"4 0\n");
+    }
+
+    #[test]
+    fn figures_are_a_line() {
+        let journal = crate::text::records("year 720 120 4\nfix 5\n").unwrap();
+        assert_eq!(figures(&journal), b"2 1 1 0 13 1 7 13\n");
+        assert_eq!(figures(&[&journal[..], b"ZZ"].concat()), b"2 1 1 2 13 1 7 13\n");
+        assert_eq!(figures(b""), b"0 0 0 0 0 0 0 0\n");
     }
 }

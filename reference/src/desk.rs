@@ -1,4 +1,4 @@
-//! What the program `yearbook` prints of an input that was read: listing, replies in words, printed close, and standard error.
+//! What the program `yearbook` prints of an input that was read: listing, replies in words, printed close, the run, and standard error.
 
 use std::fmt::Write;
 
@@ -7,28 +7,31 @@ use crate::lines::write_call;
 use crate::listing::{self, MOST_BYTES};
 use crate::number::in_words;
 use crate::page;
+use crate::summary;
 
 /// 01 "Journal records", count: a line of the replies shows no more readings of a test.
 const MOST_READINGS: usize = 96;
 
-/// What the program prints without a word, with `replies` and with `page`, and what standard error gets.
+/// What the program prints without a word, with `replies`, with `page` and with `run`, and what standard error gets.
 #[derive(Debug, PartialEq, Eq)]
 pub struct Desk {
     pub listing: Vec<u8>,
     pub replies: String,
-    /// Standard error without a word and with `replies`.
+    /// Standard error without a word, with `replies` and with `run`.
     pub findings: String,
     pub page: String,
     /// Standard error with `page`.
     pub page_findings: String,
+    pub run: String,
 }
 
 /// 01 "Journal in, listing out": all that is printed of an input, of which one byte above the limit is enough.
 pub fn desk(input: &[u8]) -> Desk {
     if input.len() > MOST_BYTES {
         let findings = format!("yearbook: input longer than {MOST_BYTES} bytes, nothing read\n");
-        let [replies, page] = ["X\n"; 2].map(str::to_string);
-        return Desk { listing: b"X\n".to_vec(), replies, findings: findings.clone(), page, page_findings: findings };
+        let (listing, page_findings) = (b"X\n".to_vec(), findings.clone());
+        let [replies, page, run] = ["X\n"; 3].map(str::to_string);
+        return Desk { listing, replies, findings, page, page_findings, run };
     }
     let mut replies = String::new();
     let run = journal::run_with(input, |place, call, number| {
@@ -39,7 +42,7 @@ pub fn desk(input: &[u8]) -> Desk {
     replies.push_str(&end(&run));
     let findings = findings(&run);
     let (page, page_findings) = printed(&run, &findings);
-    Desk { listing: listing::listing(&run), replies, findings, page, page_findings }
+    Desk { listing: listing::listing(&run), replies, findings, page, page_findings, run: summary::lines(&run) }
 }
 
 /// 01 "Journal records": the last line of the replies, the journal's end or the stop.
@@ -76,11 +79,12 @@ fn printed(run: &Run, findings: &str) -> (String, String) {
     }
 }
 
-/// The five parts, listing, replies, findings, page and findings with it, each behind a line with its length in bytes.
+/// The six parts, listing, replies, findings, page and findings with it, and the run, each behind a line with its length in bytes.
 pub fn parts(input: &[u8]) -> Vec<u8> {
-    let Desk { listing, replies, findings, page, page_findings } = desk(input);
+    let Desk { listing, replies, findings, page, page_findings, run } = desk(input);
+    let texts = [replies, findings, page, page_findings, run].map(String::into_bytes);
     let mut parts = Vec::new();
-    for part in [&listing[..], replies.as_bytes(), findings.as_bytes(), page.as_bytes(), page_findings.as_bytes()] {
+    for part in [listing].iter().chain(&texts) {
         parts.extend_from_slice(format!("{}\n", part.len()).as_bytes());
         parts.extend_from_slice(part);
     }

@@ -16,7 +16,7 @@ pub struct Run {
     pub stop: Option<Number>,
     /// The place of the stop, the journal's length without one.
     pub place: usize,
-    /// The place and the number of the first refused record if there is any.
+    /// 02 "A3": the place and the number of the first refused record, none if no record read was refused.
     pub first_refused: Option<(usize, Number)>,
 }
 

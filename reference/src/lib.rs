@@ -18,6 +18,7 @@ pub mod random;
 pub mod range;
 pub mod record;
 pub mod share;
+pub mod summary;
 pub mod text;
 
 #[cfg(test)]

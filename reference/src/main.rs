@@ -12,8 +12,8 @@ use reference::listing::{self, MOST_BYTES};
 use reference::{card, cases, desk, lines, random, text};
 
 /// The subcommands.
-const USAGE: &str = "usage: reference yearbook | desk [FILE..] | page [FILE..] | plant | counts | record | replies | \
-                     text | lines | random SEED COUNT DIR";
+const USAGE: &str = "usage: reference yearbook | desk [FILE..] | page [FILE..] | figures [FILE..] | plant | counts | \
+                     record | replies | text | lines | random SEED COUNT DIR";
 
 /// 01 "Journal in, listing out": the bytes from which the program sees that its input is too long.
 const ENOUGH: u64 = MOST_BYTES as u64 + 1;
@@ -51,6 +51,7 @@ fn answer(words: &[&str]) -> Result<Answer, String> {
         ["yearbook"] => listing::yearbook(&input(ENOUGH)?),
         ["desk", files @ ..] => each(files, ENOUGH, desk::parts)?,
         ["page", files @ ..] => each(files, u64::MAX, cases::page)?,
+        ["figures", files @ ..] => each(files, u64::MAX, cases::figures)?,
         ["plant"] => cases::plant(&input_text()?)?.into_bytes(),
         ["counts"] => card::counts().into_bytes(),
         ["record"] => cases::records(&input(u64::MAX)?)?.into_bytes(),

@@ -68,3 +68,28 @@ const MEANINGS: [&str; 16] = [
 pub fn in_words(number: u8) -> String {
     format!("{number} {}", MEANINGS[usize::from(number)])
 }
+
+/// 01 "Numbered replies": the column When, from number 1.
+const CONDITIONS: [&str; 15] = [
+    "record cut short",
+    "unknown mark",
+    "field outside its range; a division's T, weights or their number",
+    "stage",
+    "unit already enrolled",
+    "unit not enrolled",
+    "component foreign to kind",
+    "ending 0 with count not TC; ending 1 or 2 with count TC or more",
+    "HD + HIF + HMP is 0 or above 1,052,640, or HED > HD + HMP",
+    "consumer not declared (commit, release, meter)",
+    "producer's balances + q exceed its units' efficient offers",
+    "q above the pair's balance",
+    "weights sum to 0",
+    "a DFA above 3,000,000",
+    "output buffer shorter than the record, or than a division's amounts",
+];
+
+/// 01 "Numbered replies": a number and when it is met, as its row has it.
+pub fn with_condition(number: Number) -> String {
+    let number = number as usize;
+    format!("{number} {}", CONDITIONS[number - 1])
+}

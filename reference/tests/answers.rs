@@ -1,4 +1,4 @@
-//! The program's answers: standard output, standard error and the status of `text`, `lines` and `page`.
+//! The program's answers: standard output, standard error and the status of `text`, `lines`, `page` and `figures`.
 
 use std::fs::File;
 use std::io::Write;
@@ -57,6 +57,14 @@ fn pages_follow_each_other_file_by_file() {
     answers(&["page", "cases/j.txt", "/dev/null"], b"", b"4 0\n4 0\n", "", 0);
     let missing = "cases/none: No such file or directory (os error 2)\n";
     answers(&["page", "cases/j.txt", "cases/none"], b"", b"", missing, 1);
+}
+
+#[test]
+fn figures_are_a_line_for_each_file() {
+    answers(&["figures"], &YEAR.repeat(2), b"2 1 1 0 14 1 7 4\n", "", 0);
+    answers(&["figures", "cases/j.txt", "/dev/null"], b"", b"0 0 0 2 0 0 0 0\n0 0 0 0 0 0 0 0\n", "", 0);
+    let longer = YEAR.repeat(65_536);
+    answers(&["figures"], &longer, b"65536 1 65535 0 458752 1 7 4\n", "", 0);
 }
 
 #[test]

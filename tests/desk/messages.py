@@ -13,7 +13,7 @@ import time
 
 PROGRAM, FOLDER, FAILING = sys.argv[1], pathlib.Path(sys.argv[2]), sys.argv[3]
 J = (FOLDER / "j.journal").read_bytes()
-USAGE = "usage: yearbook [replies | page] [FILE] | yearbook help\n"
+USAGE = "usage: yearbook [replies | run | page] [FILE] | yearbook help\n"
 J_LISTING = (FOLDER / "j.listing").read_text()
 J_REPLIES = """\
 0 year 720 120 4: 0 accepted
@@ -34,6 +34,13 @@ J_REPLIES = """\
 168 close 890: 0 accepted
 172 end of journal
 """
+J_RUN = """\
+records read: 16
+accepted: 15
+refused: 1
+reading stopped at byte 172: end of journal
+first refused record at byte 123: 11 producer's balances + q exceed its units' efficient offers
+"""
 J_PAGE = "PAGE    1" + " " * 27 + """
   1    3334      334         7123560
   2    3333     -667        -7123560
@@ -45,6 +52,7 @@ HELP = USAGE + """\
 Reads a journal of the firm capacity book, FILE or standard input, of at most 65536 bytes.
   without a word  the listing: U units, P producers, D demands, S settlements, T totals, R records
   replies         each record's place, call, number and meaning, and where the reading stopped
+  run             the counts, where and why the reading stopped, and the first refused record with its number
   page            the printed close: a line of 36 columns for each declared consumer, 50 to a page
   help            these words
 A journal holds binary records; scripts/journal of the sources makes them from lines of text.
@@ -71,11 +79,18 @@ def file(name):
     return str(FOLDER / name)
 
 
+def run_lines(read, refused, end, first="no record refused"):
+    """the five lines of a run, from the records read and refused, the place and the words of the end, and the last line"""
+    return f"records read: {read}\naccepted: {read - refused}\nrefused: {refused}\nreading stopped at byte {end}\n{first}\n"
+
+
 # a year as document 01 has it, with one refusal, in every way that it can be given
 expect("J on standard input", [], J_LISTING, J_SAID, J)
 expect("J as a file", [file("j.journal")], J_LISTING, J_SAID)
 expect("replies to J", ["replies"], J_REPLIES, J_SAID, J)
 expect("replies to J as a file", ["replies", file("j.journal")], J_REPLIES, J_SAID)
+expect("the run of J", ["run"], J_RUN, J_SAID, J)
+expect("the run of J as a file", ["run", file("j.journal")], J_RUN, J_SAID)
 expect("the page of J", ["page"], J_PAGE, J_SAID, J)
 expect("the page of J as a file", ["page", file("j.journal")], J_PAGE, J_SAID)
 piece, end = os.pipe()
@@ -97,6 +112,9 @@ writer.join()
 expect("a year without a refusal", [file("silent.journal")], "R 1 1 0\n", "")
 expect("no bytes", [], "R 0 0 0\n", "")
 expect("replies to no bytes", ["replies"], "0 end of journal\n", "")
+expect("the run of a year without a refusal", ["run", file("silent.journal")], run_lines(1, 0, "7: end of journal"), "")
+expect("the run of no bytes", ["run"], run_lines(0, 0, "0: end of journal"), "")
+expect("the run of J without its refused record", ["run"], run_lines(15, 0, "164: end of journal"), "", J[:123] + J[131:])
 expect("the page of J without its refused record", ["page"], J_PAGE, "", J[:123] + J[131:])
 
 # a trader's commonest mistakes: a wrong field, a consumer not declared, a journal cut, a text given as a journal
@@ -106,9 +124,19 @@ expect(
     "yearbook: 1 of 2 records refused, the first at byte 7: 3 field outside its range\n",
 )
 expect(
+    "the run of a wrong field", ["run", file("field.journal")],
+    run_lines(2, 1, "33: end of journal", "first refused record at byte 7: 3 field outside its range; a division's T, weights or their number"),
+    "yearbook: 1 of 2 records refused, the first at byte 7: 3 field outside its range\n",
+)
+expect(
     "a consumer not declared", ["replies", file("undeclared.journal")],
     "0 year 720 120 4: 0 accepted\n7 declare 1 1000 1000: 0 accepted\n18 fix 10000: 0 accepted\n"
     "24 meter 2 900: 10 consumer not declared\n31 meter 1 900: 0 accepted\n38 end of journal\n",
+    "yearbook: 1 of 5 records refused, the first at byte 24: 10 consumer not declared\n",
+)
+expect(
+    "the run of a consumer not declared", ["run", file("undeclared.journal")],
+    run_lines(5, 1, "38: end of journal", "first refused record at byte 24: 10 consumer not declared (commit, release, meter)"),
     "yearbook: 1 of 5 records refused, the first at byte 24: 10 consumer not declared\n",
 )
 STOP = "yearbook: reading stopped at byte 168: 1 record cut short\n"
@@ -118,9 +146,23 @@ expect(
     "replies to a journal cut", ["replies"], "".join(J_REPLIES.splitlines(True)[:15]) + "168 stop: 1 record cut short\n",
     J_CUT_SAID + STOP, J[:-1],
 )
+J_FIRST = J_RUN.splitlines()[-1]
+expect("the run of a journal cut", ["run"], run_lines(15, 1, "168: 1 record cut short", J_FIRST), J_CUT_SAID + STOP, J[:-1])
+expect(
+    "the run of J and an unknown mark", ["run"], J_RUN.replace("end of journal", "2 unknown mark"),
+    J_SAID + "yearbook: reading stopped at byte 172: 2 unknown mark\n", J + b"ZZ" + J,
+)
+expect(
+    "the run of J behind a refused close", ["run"], run_lines(17, 2, "176: end of journal", "first refused record at byte 0: 4 stage"),
+    "yearbook: 2 of 17 records refused, the first at byte 0: 4 not in this stage\n", J[-4:] + J,
+)
 expect("a text", [file("j.txt")], "R 0 0 0\n", "yearbook: reading stopped at byte 0: 2 unknown mark\n")
 expect(
     "replies to a text", ["replies", file("j.txt")], "0 stop: 2 unknown mark\n", "yearbook: reading stopped at byte 0: 2 unknown mark\n"
+)
+
+expect(
+    "the run of a text", ["run", file("j.txt")], run_lines(0, 0, "0: 2 unknown mark"), "yearbook: reading stopped at byte 0: 2 unknown mark\n"
 )
 
 # no page of a year that is not closed, and what else is wrong is said before
@@ -140,42 +182,50 @@ expect("65,536 bytes", [], J_LISTING.replace("R 16 15 1", f"R {16 + (65536 - len
 LONG = "yearbook: input longer than 65536 bytes, nothing read\n"
 expect("65,537 bytes", [], "X\n", LONG, FULL + b"C")
 expect("replies to 65,537 bytes", ["replies"], "X\n", LONG, FULL + b"C")
+expect(
+    "the run of 65,536 bytes", ["run"],
+    run_lines(16 + (65536 - len(J)) // 4, 1 + (65536 - len(J)) // 4, "65536: end of journal", J_FIRST), FULL_SAID, FULL,
+)
+expect("the run of 65,537 bytes", ["run"], "X\n", LONG, FULL + b"C")
 expect("the page of 65,536 bytes", ["page"], J_PAGE, FULL_SAID, FULL)
 expect("the page of 65,537 bytes", ["page"], "X\n", LONG, FULL + b"C")
 
 # words
 for word in ["help", "--help", "-h"]:
     expect(word, [word], HELP, "")
-for word in "replise", "pages":
+for word in "replise", "runs", "pages":
     expect("an unknown word", [word, file("j.journal")], "", f"yearbook: {word}: unknown word\n" + USAGE)
     expect("a mistyped word alone", [word], "", f"yearbook: {word}: No such file or directory\n" + USAGE)
 expect("an unknown option", ["--version"], "", "yearbook: --version: unknown word\n" + USAGE)
-for words in ["replies", file("j.journal"), "more"], ["page", file("j.journal"), "more"], ["help", file("j.journal")], ["--help", "replies", "more"]:
+for words in (
+    ["replies", file("j.journal"), "more"], ["run", file("j.journal"), "more"], ["page", file("j.journal"), "more"],
+    ["help", file("j.journal")], ["--help", "replies", "more"],
+):
     expect("an argument too many", words, "", "yearbook: too many arguments\n" + USAGE)
 expect("three files", [file("j.journal"), "b", "c"], "", f"yearbook: {file('j.journal')}: unknown word\n" + USAGE)
 expect("too long a word", ["a" * 5000], "", "yearbook: first argument: File name too long\n")
-for word in "replies", "page":
+for word in "replies", "run", "page":
     expect("too long a file", [word, "a" * 5000], "", "yearbook: second argument: File name too long\n")
 
 # what cannot be read: nothing is printed, since a failed read is not the end of the input
 expect("a missing file", [file("missing")], "", f"yearbook: {file('missing')}: No such file or directory\n" + USAGE)
-for word in "replies", "page":
+for word in "replies", "run", "page":
     expect("a missing file behind a word", [word, file("missing")], "", f"yearbook: {file('missing')}: No such file or directory\n")
 expect("a folder", [str(FOLDER)], "", f"yearbook: {FOLDER}: Is a directory\n")
 expect("a folder on standard input", [], "", "yearbook: standard input: Is a directory\n", os.open(FOLDER, os.O_RDONLY))
 expect("no standard input", [], "", "yearbook: standard input: Bad file descriptor\n", subprocess.DEVNULL, closed=0)
-for words in [], ["replies"], ["page"]:
+for words in [], ["replies"], ["run"], ["page"]:
     expect("a read that fails in the middle", words, "", "yearbook: standard input: Input/output error\n", J, preload=FAILING)
 
 # what cannot be written
 with open("/dev/full", "wb") as full:
-    for words, said in ([], J_SAID), (["replies"], J_SAID), (["page"], J_SAID), (["help"], ""):
+    for words, said in ([], J_SAID), (["replies"], J_SAID), (["run"], J_SAID), (["page"], J_SAID), (["help"], ""):
         expect("a full disk", words, "", said + "yearbook: standard output: No space left on device\n", J, to=full)
-for words in [], ["page"]:
+for words in [], ["run"], ["page"]:
     expect("no standard output", words, "", J_SAID + "yearbook: standard output: Bad file descriptor\n", J, closed=1)
 
 # whoever reads leaves: the system ends the program, but what is wrong was said before
-for words in [], ["replies"], ["page"]:
+for words in [], ["replies"], ["run"], ["page"]:
     piece, end = os.pipe()
     os.close(piece)
     expect("a reader that leaves", words, "", J_SAID, J, to=end, status=-signal.SIGPIPE)

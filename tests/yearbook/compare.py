@@ -1,11 +1,12 @@
 #!/usr/bin/env python3
 """compare.py PROGRAM REFERENCE STORED RANDOM DIFFERENT: compares what the program prints of every journal in STORED and RANDOM with what the
-second implementation prints, without a word and with the words `replies` and `page`, on standard output and on standard error.
+second implementation prints, without a word and with the words `replies`, `page` and `run`, on standard output and on standard error.
 
 A journal is given as FILE and on standard input in turn, from word to word; a stored one also the other way round. A journal that differs is
-named with the first line that differs and copied to DIFFERENT. Prints how often each number was met in the random journals, and how many of them
-have a page, have two, and have none, refused with 4; fails if a journal differs, a number from 1 to 14 was never met, or one of these three never
-occurred."""
+named with the first line that differs and copied to DIFFERENT. Prints how often each number was met in the random journals, how many of them
+have a page, have two, and have none, refused with 4, and how many have their first refusal where, together with how the reading ended. A journal
+whose first record is refused has its first refusal at place 0, even where it is the only record read; one that is too long has none of these pairs.
+Fails if a journal differs, a number from 1 to 14 was never met, or one of the three or of the twelve pairs never occurred."""
 import collections
 import concurrent.futures
 import io
@@ -20,13 +21,16 @@ import sys
 NUMBERS = range(1, 15)
 BATCH = 50
 PAGES = "a page", "two pages", "a page refused with 4"
+FIRST_REFUSALS = "no refusal", "first refusal at place 0", "first refusal in the middle", "first refusal as the last record read"
+ENDS = "end of journal", "stop 1", "stop 2"
+PAIRS = [f"{first}, {end}" for first in FIRST_REFUSALS for end in ENDS]
 
 
 def expected(reference, journals):
-    """listing, replies, findings, page and findings with it of each journal: the parts follow each other, each behind a line with its length"""
+    """listing, replies, findings, page, findings with it and run of each journal: the parts follow each other, each behind a line with its length"""
     run = subprocess.run([reference, "desk", *journals], stdout=subprocess.PIPE, check=True)
     source = io.BytesIO(run.stdout)
-    parts = [[source.read(int(source.readline())) for _ in range(5)] for _ in journals]
+    parts = [[source.read(int(source.readline())) for _ in range(6)] for _ in journals]
     if source.read():
         sys.exit("test-yearbook: FAILED, the second implementation printed more parts than journals have")
     return parts
@@ -48,12 +52,13 @@ def first_difference(ours, theirs):
     return None
 
 
-def differences(program, journal, as_file, listing, replies, findings, page, page_findings):
-    """what differs, in words; `as_file` tells whether listing and page, and not the replies, are asked with FILE"""
+def differences(program, journal, as_file, listing, replies, findings, page, page_findings, run):
+    """what differs, in words; `as_file` tells whether listing and page, and not replies and run, are asked with FILE"""
     for word, file, output, said in (
         ((), as_file, listing, findings),
         (("replies",), not as_file, replies, findings),
         (("page",), as_file, page, page_findings),
+        (("run",), not as_file, run, findings),
     ):
         asked = " ".join(["yearbook", *word, "FILE" if file else "<FILE"])
         status, out, err = printed(program, word, journal, file)
@@ -70,8 +75,24 @@ def pages(page, page_findings):
     return [name for name, holds in zip(PAGES, (headings > 0, headings == 2, b": no page, " in page_findings)) if holds]
 
 
+def pair(replies):
+    """which of PAIRS a journal is, from the line of each record and that of the end; none where it is too long"""
+    *records, end = replies.decode().splitlines()
+    if end == "X":
+        return []
+    refused = [": 0 " not in line for line in records]
+    if not any(refused):
+        first = 0
+    elif refused[0]:
+        first = 1
+    else:
+        first = 3 if refused.index(True) == len(refused) - 1 else 2
+    stop = re.fullmatch(r"\d+ stop: (\d) .*", end)
+    return [f"{FIRST_REFUSALS[first]}, {ENDS[int(stop[1]) if stop else 0]}"]
+
+
 def compare(program, reference, journals, both_ways):
-    """what differs, by journal, and how often each number was met and each of PAGES occurred"""
+    """what differs, by journal, and how often each number was met and each of PAGES and PAIRS occurred"""
     different, met = {}, collections.Counter()
     for place, (journal, parts) in enumerate(zip(journals, expected(reference, journals))):
         ways = (True, False) if both_ways else (place % 2 == 0,)
@@ -79,7 +100,7 @@ def compare(program, reference, journals, both_ways):
         if found:
             different[journal] = found
         met.update(map(int, re.findall(rb": (\d+) ", parts[1])))
-        met.update(pages(*parts[3:]))
+        met.update(pages(*parts[3:5]) + pair(parts[1]))
     return different, met
 
 
@@ -108,14 +129,16 @@ def main():
     for number in NUMBERS:
         print(f"number {number:2}: {met[number]} times")
     print(", ".join(f"{name}: {met[name]} journals" for name in PAGES))
-    missing = [item for item in (*NUMBERS, *PAGES) if not met[item]]
+    for first in FIRST_REFUSALS:
+        print(f"{first}:", ", ".join(f"{met[f'{first}, {end}']} with {end}" for end in ENDS))
+    missing = [item for item in (*NUMBERS, *PAGES, *PAIRS) if not met[item]]
     if missing:
-        print("test-yearbook: FAILED, never met:", ", ".join(map(str, missing)))
+        print("test-yearbook: FAILED, never met:", "; ".join(map(str, missing)))
     if wrong:
         print(f"test-yearbook: FAILED, {wrong} journals differ, kept in {kept}")
     if missing or wrong:
         sys.exit(1)
-    print(f"test-yearbook: passed, {count[True]} stored journals and {count[False]} random ones, listing, replies, page and standard error of each")
+    print(f"test-yearbook: passed, {count[True]} stored journals and {count[False]} random ones, listing, replies, page, run and standard error of each")
 
 
 if __name__ == "__main__":

@@ -3,7 +3,7 @@
 
 Case J (JOURNAL) cut behind each byte, with unknown marks and with odd counts; a text in place of a journal; fields that are all 0 and
 all 255; the largest inputs of 65,536 bytes, whole and cut, and longer ones; a listing with every line there can be, and the longest replies;
-printed closes about the end of a page, and those with the widest figures."""
+printed closes about the end of a page, and those with the widest figures; the first refusal at each place, with each end behind it."""
 import struct
 import sys
 
@@ -84,6 +84,21 @@ def closes():
     yield "all-charged", closed({**dict.fromkeys(every, charged), 1: (1, 2)}, 1, dict.fromkeys(every, most), 2500)
 
 
+def first_refusals():
+    """no refusal, the first one at place 0, of the only record, in the middle and of the last record, each with the journal's end, a record cut short
+    and an unknown mark behind it; refusals later than the first have other numbers, and records behind the mark are not read"""
+    opened, declared, range_3, stage_4, sum_13 = year(), declare(1, 1, 1), fix(0), close(1), fix(1)
+    for where, start in (
+        ("none", opened + declared),
+        ("place-0", stage_4 + opened + sum_13 + declared),
+        ("alone", range_3),
+        ("middle", opened + sum_13 + declared + range_3 + stage_4 + declared),
+        ("last", opened + declared + stage_4),
+    ):
+        for end, more in ("end", b""), ("stop-1", meter(1, 1)[:-1]), ("stop-2", b"ZZ" + range_3 + opened):
+            yield f"first-refusal-{where}-{end}", start + more
+
+
 def filled(start, record, size):
     """start and records behind it up to a size, the last one cut"""
     return (start + record * ((size - len(start)) // len(record) + 1))[:size]
@@ -120,6 +135,7 @@ def journals(j):
     yield "longest-replies", refused_closes(1)
     yield "longest-replies-whole", refused_closes(4)
     yield from closes()
+    yield from first_refusals()
     yield "too-long", filled(widest()[:-4], meter(1, 1), LIMIT + 1)
     yield "too-long-closed", filled(widest(), close(1), LIMIT + 1)
     yield "far-too-long", filled(year(), year(), 3 * LIMIT)

@@ -2,4 +2,5 @@
 pub mod Replies
 pub mod Findings
 pub mod Printing
+pub mod Summing
 pub mod Promises

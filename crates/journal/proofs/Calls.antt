@@ -1,5 +1,5 @@
 -- The run's book is the book after the list of the calls that it read.
-use mathlib.Core.Path.{_≡_, refl, sym, ap, _∙_}
+use mathlib.Core.Path.{_≡_, refl, ap}
 use mathlib.Core.List.{List, [], _∷_}
 use Prim.Native.Nat.{ℕ, zero, suc}
 use lib.ListN.{length}
@@ -9,9 +9,9 @@ use Rattle.record.specs.declared.reading.Read.the-variants.{End, Cut, Unknown, 
 use Rattle.record.specs.Reading.{readAt, partOf}
 use Rattle.state.specs.declared.kept.Book.{Book}
 use Rattle.state.specs.State.{freshBook}
-use Rattle.book.specs.Lists.{Event, afterAll}
+use Rattle.book.specs.Lists.{Event, replyTo, afterAll}
 use Rattle.journal.specs.declared.outcome.Run.{Run}
-use Rattle.journal.specs.Run.{started, runFrom, runOf}
+use Rattle.journal.specs.Run.{started, answered, stopped, runFrom, runOf}
 use Rattle.journal.specs.Calls.{callsFrom, placesFrom, callsOf, recordPlaces, numbersAfter}
 use Rattle.journal.proofs.Turns.{turned, run-end, run-cut, run-unknown, run-record}
 
@@ -39,30 +39,25 @@ module _ (n : ℕ) (s : List ℕ) (at : ℕ) where
   unfolding placesFrom
   places-record e = rw (e, placesFrom)
 
-after-none : (b : Book) (es : List Event) → es ≡ [] → afterAll b es ≡ b
-unfolding afterAll
-after-none b es e = rw e
-
-book-from : (n : ℕ) (s : List ℕ) (r : Run) → afterAll (r .book) (callsFrom n s (r .place)) ≡ runFrom n s r .book
-unfolding afterAll runFrom callsFrom
-book-from zero s r = refl
-book-from (suc n) s r = go (readAt s (r .place)) refl (λ q. book-from n s q)
-  where
-    go : (x : Read) → readAt s (r .place) ≡ x → ((q : Run) → afterAll (q .book) (callsFrom n s (q .place)) ≡ runFrom n s q .book) → afterAll (r .book) (callsFrom (suc n) s (r .place)) ≡ runFrom (suc n) s r .book
-    go End e f =
-        after-none (r .book) (callsFrom (suc n) s (r .place)) (calls-end n s (r .place) e) ∙ ap (λ (q : Run). q .book) (sym (run-end n s r e))
-    go Cut e f =
-        after-none (r .book) (callsFrom (suc n) s (r .place)) (calls-cut n s (r .place) e) ∙ ap (λ (q : Run). q .book) (sym (run-cut n s r e))
-    go Unknown e f =
-        after-none (r .book) (callsFrom (suc n) s (r .place)) (calls-unknown n s (r .place) e) ∙ ap (λ (q : Run). q .book) (sym (run-unknown n s r e))
-    go (Record c from next) e f =
-        ap (afterAll (r .book)) (calls-record n s (r .place) e)
-        ∙ f (turned s r c from next)
-        ∙ ap (λ (q : Run). q .book) (sym (run-record n s r e))
+-- what holds of a run that ends or stops, and of one more record where it holds behind it, holds of every run and the calls that it reads
+module _ (P : List Event → Run → Run → Type 0) (ends : (r : Run) → P [] r r) (stops : (r : Run) (number : ℕ) → P [] r (stopped r number)) (turns : (r q : Run) (e : Event) (next : ℕ) (es : List Event) → P es (answered r (replyTo (r .book) e) next) q → P (e ∷ es) r q) where
+  pub run-reads : (n : ℕ) (s : List ℕ) (r : Run) → P (callsFrom n s (r .place)) r (runFrom n s r)
+  unfolding runFrom callsFrom
+  run-reads zero s r = ends r
+  run-reads (suc n) s r = go (readAt s (r .place)) refl (λ q. run-reads n s q)
+    where
+      go : (x : Read) → readAt s (r .place) ≡ x → ((q : Run) → P (callsFrom n s (q .place)) q (runFrom n s q)) → P (callsFrom (suc n) s (r .place)) r (runFrom (suc n) s r)
+      go End e f = rw (run-end n s r e, calls-end n s (r .place) e) (ends r)
+      go Cut e f = rw (run-cut n s r e, calls-cut n s (r .place) e) (stops r 1)
+      go Unknown e f = rw (run-unknown n s r e, calls-unknown n s (r .place) e) (stops r 2)
+      go (Record c from next) e f =
+          rw (run-record n s r e, calls-record n s (r .place) e)
+          (turns r (runFrom n s (turned s r c from next)) (event s c from next) next (callsFrom n s next) (f (turned s r c from next)))
 
 pub run-book : (s : List ℕ) → afterAll freshBook (callsOf s) ≡ runOf s .book
-unfolding callsOf runOf started
-run-book s = book-from (suc (length s)) s started
+unfolding afterAll callsOf runOf started
+run-book s =
+    run-reads (λ es r q. afterAll (r .book) es ≡ q .book) (λ r. refl) (λ r number. refl) (λ r q e next es h. h) (suc (length s)) s started
 
 -- as many places, and as many numbers, as calls
 length-places-from : (n : ℕ) (s : List ℕ) (at : ℕ) → length (placesFrom n s at) ≡ length (callsFrom n s at)

@@ -4,6 +4,7 @@ pub mod Turns
 pub mod Counts
 pub mod Calls
 pub mod Refusals
+pub mod Earliest
 pub mod Stops
 pub mod Ready
 pub mod Underway

@@ -67,6 +67,10 @@ record FirstFrom (n : ℕ) (s : List ℕ) (r : Run) (place number : ℕ) : Type 
   index : ℕ
   read : index < length (callsFrom n s (r .place))
   placed : getD (placesFrom n s (r .place)) index 0 ≡ place
+  call : Call
+  readings : ℕ
+  next : ℕ
+  stands : readAt s place ≡ Record call readings next
   numbered : getD (numbersAfter (r .book) (callsFrom n s (r .place))) index 0 ≡ number
   refused : number ≡ 0 → ⊥
   earlier : (k : ℕ) → k < index → getD (numbersAfter (r .book) (callsFrom n s (r .place))) k 0 ≡ 0
@@ -90,6 +94,10 @@ module _ (n : ℕ) (s : List ℕ) (r : Run) (c : Call) (from next : ℕ) (p : re
         index = 0;
         read = rw (calls-record n s (r .place) p) (omega arith);
         placed = rw (places-record n s (r .place) p) e;
+        call = c;
+        readings = from;
+        next = next;
+        stands = ap (readAt s) (sym e) ∙ p;
         numbered = rw numbers-record f;
         refused = h;
         earlier = λ k l. absurd (omega arith);
@@ -102,6 +110,10 @@ module _ (n : ℕ) (s : List ℕ) (r : Run) (c : Call) (from next : ℕ) (p : re
         index = suc (w .index);
         read = rw (calls-record n s (r .place) p) (omega (arith, w .read));
         placed = rw (places-record n s (r .place) p) (w .placed);
+        call = w .call;
+        readings = w .readings;
+        next = w .next;
+        stands = w .stands;
         numbered = rw numbers-record (w .numbered);
         refused = w .refused;
         earlier = rw numbers-record (go w h);
@@ -151,6 +163,10 @@ named-first s place number e =
       index = w .index;
       read = w .read;
       placed = w .placed;
+      call = w .call;
+      readings = w .readings;
+      next = w .next;
+      stands = w .stands;
       numbered = w .numbered;
       refused = w .refused;
       earlier = w .earlier;

@@ -1,5 +1,5 @@
 -- Where a run ends, and what stands there.
-use mathlib.Core.Path.{_≡_, refl}
+use mathlib.Core.Path.{_≡_, refl, _∙_}
 use mathlib.Core.List.{List}
 use Prim.Native.Nat.{ℕ, zero, suc, _+_, _-_, _≤_, _<_}
 use native.Mathlib.Omega.{arith}
@@ -9,11 +9,11 @@ use Rattle.record.specs.declared.reading.Read.the-variants.{End, Cut, Unknown, 
 use Rattle.record.specs.Reading.{readAt}
 use Rattle.journal.specs.declared.outcome.Run.{Run}
 use Rattle.journal.specs.Run.{started, runFrom, runOf}
-use Rattle.journal.specs.Calls.{callsFrom, callsOf}
+use Rattle.journal.specs.Calls.{callsOf}
 use Rattle.journal.specs.Promises.{Ends, RunEnds, ReadLength}
 use Rattle.journal.proofs.Reading.{next-above, next-within, end-behind}
 use Rattle.journal.proofs.Turns.{turned, run-end, run-cut, run-unknown, run-record}
-use Rattle.journal.proofs.Calls.{calls-end, calls-cut, calls-unknown, calls-record}
+use Rattle.journal.proofs.Calls.{run-reads}
 
 ends-from : (n : ℕ) (s : List ℕ) (r : Run) → length s - r .place < n → r .place ≤ length s → r .stop ≡ 0 → Ends s (runFrom n s r)
 ends-from zero s r h k z = absurd (omega arith)
@@ -54,18 +54,8 @@ unfolding runOf started
 run-ends s = ends-from (suc (length s)) s started (omega arith) (omega arith) refl
 
 -- each record that was read is one call of the list
-read-from : (n : ℕ) (s : List ℕ) (r : Run) → runFrom n s r .read ≡ r .read + length (callsFrom n s (r .place))
-unfolding runFrom callsFrom
-read-from zero s r = omega arith
-read-from (suc n) s r = go (readAt s (r .place)) refl (λ q. read-from n s q)
-  where
-    go : (x : Read) → readAt s (r .place) ≡ x → ((q : Run) → runFrom n s q .read ≡ q .read + length (callsFrom n s (q .place))) → runFrom (suc n) s r .read ≡ r .read + length (callsFrom (suc n) s (r .place))
-    go End e f = rw (run-end n s r e, calls-end n s (r .place) e) (omega arith)
-    go Cut e f = rw (run-cut n s r e, calls-cut n s (r .place) e) (omega arith)
-    go Unknown e f = rw (run-unknown n s r e, calls-unknown n s (r .place) e) (omega arith)
-    go (Record c from next) e f =
-        rw (run-record n s r e, calls-record n s (r .place) e) (omega (arith, f (turned s r c from next)))
-
 pub read-length : ReadLength
 unfolding runOf callsOf started
-read-length s = omega (arith, read-from (suc (length s)) s started)
+read-length s =
+    run-reads (λ es r q. q .read ≡ r .read + length es) (λ r. omega arith) (λ r number. omega arith) (λ r q e next es h. omega arith) (suc (length s)) s started
+    ∙ omega arith

@@ -3,6 +3,7 @@ use mathlib.Core.Path.{_≡_}
 use mathlib.Core.List.{List, [], _∷_}
 use Prim.Native.Nat.{ℕ, zero, suc, _<_}
 use lib.ListN.{length, getD}
+use Rattle.table.specs.declared.calls.Call.{Call}
 use Rattle.record.specs.declared.reading.Read.the-variants.{End, Cut, Unknown, Record}
 use Rattle.record.specs.Reading.{readAt, partOf}
 use Rattle.state.specs.declared.kept.Book.{Book}
@@ -46,11 +47,15 @@ numbersAfter b (e ∷ es) = replyTo b e .number ∷ numbersAfter (replyTo b e .b
 unfoldable pub replyNumbers : List ℕ → List ℕ
 replyNumbers s = numbersAfter freshBook (callsOf s)
 
--- the record at a place is the first of the read records that was refused, with this number
+-- the record at a place is the first of the read records that was refused, with this number; it is read where it stands
 pub record FirstRefusedAt (s : List ℕ) (place number : ℕ) : Type 0 where
   pub index : ℕ
   pub read : index < length (callsOf s)
   pub placed : getD (recordPlaces s) index 0 ≡ place
+  pub call : Call
+  pub readings : ℕ
+  pub next : ℕ
+  pub stands : readAt s place ≡ Record call readings next
   pub numbered : getD (replyNumbers s) index 0 ≡ number
   pub refused : number ≡ 0 → ⊥
   pub earlier : (k : ℕ) → k < index → getD (replyNumbers s) k 0 ≡ 0

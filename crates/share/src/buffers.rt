@@ -1,10 +1,11 @@
 // The division as C calls it, over buffers of bytes.
 ghost use mathlib.Core.Path.{_≡_};
 ghost use Prim.Native.Nat.{_*_, _≤_};
-ghost use mathlib.Core.List.{_++_};
-ghost use lib.ListN.{length, drop};
-ghost use Rattle.basis.specs.Numbers.{numbersOf, allBytesOf, written};
+ghost use lib.ListN.{length};
+ghost use Rattle.basis.specs.Numbers.{numbersOf};
 ghost use Rattle.share.specs.Buffers.{Shares};
+use basis::number_at;
+use basis::put_numbers;
 use quantities::MOST_WEIGHTS;
 
 // The numbers of four bytes each that the buffer holds, into the weights.
@@ -14,19 +15,7 @@ pub(crate) fn read_weights(buffer: &[u8], weights: &mut [u64])
 {
     let mut i = 0;
     while i < weights.len() {
-        weights[i] = basis::number_at(buffer, 4 * i, 4);
-        i += 1;
-    }
-}
-
-// The amounts, eight bytes each, over the front of the buffer.
-pub(crate) fn put_amounts(amounts: &[u64], buffer: &mut [u8])
-    requires { ⌜ 8 * length (now amounts) ≤ length (now buffer) ⌝ }
-    ensures { λ _. ⌜ now (buffer .exit) ≡ written (now (buffer .entry)) 0 (allBytesOf 8 (now (amounts .entry))) ⌝ }
-{
-    let mut i = 0;
-    while i < amounts.len() {
-        basis::put_number(buffer, 8 * i, 8, amounts[i]);
+        weights[i] = number_at(buffer, 4 * i, 4);
         i += 1;
     }
 }
@@ -48,7 +37,7 @@ pub(crate) fn divide_buffer(
         return number;
     }
     crate::divide(total, numbers, parts);
-    put_amounts(parts, amounts);
+    put_numbers(amounts, 8, parts);
     0
 }
 

@@ -6,6 +6,7 @@ use libc::STDERR_FILENO;
 pub enum Asked {
     Listing,
     Replies,
+    Run,
     Page,
 }
 
@@ -44,6 +45,9 @@ pub fn word_of(argument: &[u8]) -> Word {
     if is_same(argument, b"replies") {
         return Word::Print(Asked::Replies);
     }
+    if is_same(argument, b"run") {
+        return Word::Print(Asked::Run);
+    }
     if is_same(argument, b"page") {
         return Word::Print(Asked::Page);
     }
@@ -60,7 +64,7 @@ pub fn word_of(argument: &[u8]) -> Word {
 pub fn usage() {
     io::write_all(
         STDERR_FILENO,
-        b"usage: yearbook [replies | page] [FILE] | yearbook help\n",
+        b"usage: yearbook [replies | run | page] [FILE] | yearbook help\n",
     );
 }
 
@@ -80,7 +84,7 @@ pub fn too_many() {
 
 // The words, on standard output.
 pub fn help() {
-    let _ = print(b"usage: yearbook [replies | page] [FILE] | yearbook help\n")
+    let _ = print(b"usage: yearbook [replies | run | page] [FILE] | yearbook help\n")
         && print(
             b"Reads a journal of the firm capacity book, FILE or standard input, of at most 65536 bytes.\n",
         )
@@ -89,6 +93,9 @@ pub fn help() {
         )
         && print(
             b"  replies         each record's place, call, number and meaning, and where the reading stopped\n",
+        )
+        && print(
+            b"  run             the counts, where and why the reading stopped, and the first refused record with its number\n",
         )
         && print(
             b"  page            the printed close: a line of 36 columns for each declared consumer, 50 to a page\n",

@@ -1,4 +1,4 @@
-// `yearbook [replies | page] [FILE] | yearbook help`: words, reading and writing. What is printed of a journal is made in `desk`.
+// `yearbook [replies | run | page] [FILE] | yearbook help`: words, reading and writing. What is printed of a journal is made in `desk`.
 mod arguments; // arguments.rt: what the program is asked for
 mod input; // input.rt: the input, read whole
 mod output; // output.rt: what goes to standard output and standard error

@@ -1,13 +1,16 @@
 // What goes to standard output, and what to standard error.
-ghost use Prim.Native.Nat.{_<_};
+ghost use Prim.Native.Nat.{_≤_, _<_};
+ghost use lib.ListN.{length};
 use crate::arguments::Asked;
 use desk::LONGEST_FINDINGS;
 use desk::LONGEST_REPLY;
 use desk::Rest;
+use desk::Sizes;
 use desk::all_replies;
 use desk::put_desk;
 use desk::put_printed;
 use desk::put_reply;
+use desk::put_run;
 use libc::STDERR_FILENO;
 use libc::STDOUT_FILENO;
 use listing::LONGEST;
@@ -50,37 +53,44 @@ fn print_replies(input: &[u8]) {
     }
 }
 
-// What is found wrong with an input, and then its listing or the replies: who reads these may leave, as `head` does, and end the program.
-fn tell_desk(is_replies: bool, input: &[u8]) {
+// Whether the replies are asked for, which are printed line by line.
+fn is_replies(asked: Asked) -> bool {
+    match asked {
+        Asked::Listing => false,
+        Asked::Replies => true,
+        Asked::Run => false,
+        Asked::Page => false,
+    }
+}
+
+// What is printed of an input and what is found wrong with it, each in its buffer; where the replies are asked for, the listing.
+fn put_asked(
+    asked: Asked,
+    input: &[u8],
+    output: &mut [u8; LONGEST],
+    findings: &mut [u8; LONGEST_FINDINGS],
+) -> Sizes
+    ensures { λ r. ⌜ (r .output ≤ length (now (output .exit))) × (r .findings ≤ length (now (findings .exit))) ⌝ }
+{
+    match asked {
+        Asked::Listing => put_desk(input, output, findings),
+        Asked::Replies => put_desk(input, output, findings),
+        Asked::Run => put_run(input, output, findings),
+        Asked::Page => put_printed(input, output, findings),
+    }
+}
+
+// What is found wrong with an input, and then what is asked for: who reads this may leave, as `head` does, and end the program.
+pub fn tell(asked: Asked, input: &[u8]) {
     let mut output = [0u8; LONGEST];
     let mut findings = [0u8; LONGEST_FINDINGS];
-    let sizes = put_desk(input, &mut output, &mut findings);
+    let sizes = put_asked(asked, input, &mut output, &mut findings);
     let found = sizes.findings;
     io::write_all(STDERR_FILENO, &findings[..found]);
-    if is_replies && input.len() <= MOST_INPUT {
+    if is_replies(asked) && input.len() <= MOST_INPUT {
         print_replies(input);
     } else {
         let size = sizes.output;
         print(&output[..size]);
-    }
-}
-
-// What is found wrong with an input, and then its printed close.
-fn tell_page(input: &[u8]) {
-    let mut output = [0u8; LONGEST];
-    let mut findings = [0u8; LONGEST_FINDINGS];
-    let sizes = put_printed(input, &mut output, &mut findings);
-    let found = sizes.findings;
-    io::write_all(STDERR_FILENO, &findings[..found]);
-    let size = sizes.output;
-    print(&output[..size]);
-}
-
-// What is asked for of an input.
-pub fn tell(asked: Asked, input: &[u8]) {
-    match asked {
-        Asked::Listing => tell_desk(false, input),
-        Asked::Replies => tell_desk(true, input),
-        Asked::Page => tell_page(input),
     }
 }

@@ -1,9 +1,11 @@
--- The listing and the printed close of a journal's run, told to C or not.
-use mathlib.Core.Path.{_≡_, refl, sym, ap, _∙_}
+-- The listing, the printed close and the figures of a journal's run, told to C or not.
+use mathlib.Core.Path.{_≡_, refl, sym, ap, subst, _∙_}
 use mathlib.Core.List.{List}
-use Prim.Native.Nat.{ℕ}
-use borrow.Author.Tests.{eq-eqb, ne-eqb}
-use lib.ListN.{length}
+use Prim.Native.Nat.{ℕ, _≤_, _<_, _^_}
+use native.Mathlib.Omega.{arith}
+use borrow.Author.Tests.{eq-eqb, ne-eqb, lt-ltb, le-ltb}
+use lib.ListN.{length, getD}
+use Rattle.basis.specs.Numbers.{allBytesOf, written}
 use Rattle.journal.specs.declared.outcome.Run.{Run}
 use Rattle.journal.specs.Run.{runOf}
 use Rattle.listing.specs.declared.Listed.{Listed}
@@ -12,7 +14,7 @@ use Rattle.listing.proofs.Answers.{listed-size}
 use Rattle.state.specs.declared.kept.Book.{Book}
 use Rattle.page.specs.declared.Printed.{Printed}
 use Rattle.page.specs.Page.{printNumber, printedOf, Prints}
-use Rattle.yearbook_c.specs.Yearbook.{ListsJournal, PrintsJournal}
+use Rattle.yearbook_c.specs.Yearbook.{ListsJournal, PrintsJournal, figuresOf, figuresSize, TellsRun}
 
 module _ (s : List ℕ) {old new : List ℕ} {run : Run} {r : Listed} (before : ℕ) (e : run ≡ runOf s) (h : Lists (listingOf run) old r new) where
   lists : Lists (listingOf (runOf s)) old r new
@@ -64,4 +66,21 @@ module _ (s : List ℕ) {old new : List ℕ} {b : Book} {r : Printed} (before : 
             ap (λ (x : Printed). x .size) (prints .answer)
             ∙ rw (eq-eqb (printNumber (runOf s .book) (length old)) 0 (sym answered ∙ n)) refl;
         short = prints .short;
+      }
+
+-- a buffer that is too short for the figures, and one that is not
+module _ (s old : List ℕ) where
+  pub figures-refused : length old < figuresSize → TellsRun s old 15 old
+  figures-refused h = let e = lt-ltb (length old) figuresSize h in record { answer = rw e; bytes = rw e; whole = λ z. absurd (omega arith) }
+
+  pub figures-put : {run : Run} {told new : List ℕ} → figuresSize ≤ length old → run ≡ runOf s → told ≡ figuresOf run → ((k : ℕ) → getD told k 0 < 2 ^ 64) → new ≡ written old 0 (allBytesOf 8 told) → TellsRun s old 0 new
+  figures-put h r t f w =
+      let e = le-ltb (length old) figuresSize h in
+      record {
+        answer = rw e;
+        bytes =
+            w
+            ∙ ap (λ (l : List ℕ). written old 0 (allBytesOf 8 l)) (t ∙ ap figuresOf r)
+            ∙ rw e;
+        whole = λ z k. subst (λ (l : List ℕ). getD l k 0 < 2 ^ 64) (t ∙ ap figuresOf r) (f k);
       }

@@ -6,6 +6,7 @@ use crate::journal;
 use crate::listing;
 use crate::page;
 use crate::random;
+use crate::summary;
 use crate::text;
 
 /// The replies of a journal in words, and what standard error gets.
@@ -144,20 +145,27 @@ fn an_input_of_more_than_65_536_bytes_is_not_read() {
     let longer = [&full[..], b"C"].concat();
     assert_eq!(said(&longer), expected);
     assert_eq!((desk(&longer).page, desk(&longer).page_findings), expected);
+    assert_eq!(desk(&longer).run, expected.0);
 }
 
 #[test]
 fn the_parts_follow_each_other_behind_their_lengths() {
     let stopped = "yearbook: reading stopped at byte 0: 1 record cut short\n";
     let expected = "8\nR 0 0 0\n27\n0 stop: 1 record cut short\n".to_string();
-    assert_eq!(parts(b"Y"), format!("{expected}56\n{stopped}0\n119\n{stopped}{NO_PAGE}").as_bytes());
-    assert_eq!(parts(b""), format!("8\nR 0 0 0\n17\n0 end of journal\n0\n0\n63\n{NO_PAGE}").as_bytes());
+    let [cut, none] = [&b"Y"[..], b""].map(|journal| summary::lines(&journal::run(journal)));
+    assert_eq!(parts(b"Y"), format!("{expected}56\n{stopped}0\n119\n{stopped}{NO_PAGE}103\n{cut}").as_bytes());
+    let expected = format!("8\nR 0 0 0\n17\n0 end of journal\n0\n0\n63\n{NO_PAGE}");
+    assert_eq!(parts(b""), format!("{expected}99\n{none}").as_bytes());
 }
 
 #[test]
-fn the_listing_is_that_of_the_program() {
+fn the_listing_is_that_of_the_program_and_the_run_is_beside_it() {
     for number in 0..200 {
         let journal = random::journal(6, number);
-        assert_eq!(desk(&journal).listing, listing::yearbook(&journal));
+        let said = desk(&journal);
+        assert_eq!(said.listing, listing::yearbook(&journal));
+        let is_read = journal.len() <= listing::MOST_BYTES;
+        let lines = if is_read { summary::lines(&journal::run(&journal)) } else { "X\n".to_string() };
+        assert_eq!(said.run, lines);
     }
 }

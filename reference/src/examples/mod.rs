@@ -5,6 +5,7 @@ mod desk;
 mod page;
 mod replies;
 mod stages;
+mod summary;
 mod thirteen;
 mod years;
 

@@ -11,8 +11,10 @@ use std::io;
 use std::path::Path;
 
 use crate::call::{Call, Year, FORMS};
+use crate::journal::run;
 use crate::listing::MOST_BYTES;
 use crate::range::CONSUMERS;
+use crate::record;
 use draft::Draft;
 use draw::Draw;
 
@@ -25,11 +27,12 @@ pub fn write_journals(seed: u64, count: u64, folder: &Path) -> io::Result<()> {
     Ok(())
 }
 
-/// One journal of a seed: a whole season, one about the end of a page, cut or damaged, one about the program's limit, or calls in any order.
+/// One journal of a seed: a whole season, one about its first refusal, one about the end of a page, cut or damaged, one about the program's limit, or calls in any order.
 pub fn journal(seed: u64, number: u64) -> Vec<u8> {
     let mut draft = Draft::new(Draw::new(seed, number));
     match draft.draw.between(0, 999) {
-        0..=789 => season(&mut draft),
+        0..=739 => season(&mut draft),
+        740..=789 => about_a_refusal(&mut draft),
         790..=819 => about_a_page(&mut draft),
         820..=879 => {
             season(&mut draft);
@@ -58,6 +61,25 @@ fn season(draft: &mut Draft) {
             let record = draft.any_record();
             draft.put_record(&record);
         }
+    }
+}
+
+/// 02 "A3": a season whose first refusal is nowhere, at place 0, in the middle or last, and behind it the journal's end or a stop.
+fn about_a_refusal(draft: &mut Draft) {
+    if draft.draw.chance(25) {
+        faults::fault(draft);
+    }
+    season(draft);
+    let Draft { draw, journal, .. } = draft;
+    if let Some((first, _)) = run(journal).first_refused {
+        let (_, next) = record::read(&journal[..], first).expect("a drafted record is whole");
+        let whole = journal.len();
+        journal.truncate(draw.pick(&[first, next, whole]));
+    }
+    match draw.between(0, 2) {
+        0 => {}
+        1 => journal.extend_from_slice(&FORMS[draw.between(0, 9) as usize].mark),
+        _ => journal.extend_from_slice(b"RY and so on"),
     }
 }
 

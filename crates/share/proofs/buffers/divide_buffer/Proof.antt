@@ -27,8 +27,8 @@ returns c =
 divide-requires : tie.Need-divide-requires
 divide-requires c κs = search needs
 
-put-amounts-requires : tie.Need-put-amounts-requires
-put-amounts-requires c κs =
+put-numbers-requires : tie.Need-put-numbers-requires
+put-numbers-requires c κs =
     let l = ap length (c .before .before .before .before .divide .ensures .amounts) in
     omega (arith, l, room-for-all (c .before .before .before .before .before .before .before .before .before .before .before .before .before .before .before .before .before .before .args .total) (now (c .before .before .before .before .before .before .before .before .before .before .before .before .before .before .before .before .before .before .args .buffer)) (now (c .before .before .before .before .before .before .before .before .before .before .before .before .before .before .before .before .before .before .args .amounts)) (length (now (c .before .before .before .before .before .before .before .before .before .before .before .before .before .before .before .before .before .before .args .numbers))) (c .before .before .before .before .before .before .before .before .before .before .before .before .before .before .before .before .before .before .pre .0) (c .before .before .before .before .before .before .before .before .before .before .before .before .read-weights .last .1 .0) (c .before .before .before .before .before .before .before .before .before .before .before .before .read-weights .ensures) (sym (c .before .before .before .before .before .before .before .before .division-number .ensures) ∙ c .before .before .before .before .before .before .before .if1 .left) (now (c .before .before .before .before .before .before .before .before .before .before .before .before .before .before .before .before .before .before .args .parts)) (now (c .before .before .before .before .before .before .before .before .before .before .before .before .before .before .before .before .before .before .args .parts)) (c .before .before .before .before .before .before .before .before .before .before .before .before .before .before .before .before .before .before .pre .1))
 
@@ -44,7 +44,7 @@ same-length-4 c = search needs
 returns-2 : tie.Need-returns-2
 returns-2 c =
     shared (c .before .before .before .before .before .before .before .before .before .before .before .before .before .before .before .before .before .before .before .before .before .args .total) (now (c .before .before .before .before .before .before .before .before .before .before .before .before .before .before .before .before .before .before .before .before .before .args .buffer)) (now (c .before .before .before .before .before .before .before .before .before .before .before .before .before .before .before .before .before .before .before .before .before .args .amounts)) (length (now (c .before .before .before .before .before .before .before .before .before .before .before .before .before .before .before .before .before .before .before .before .before .args .numbers))) (c .before .before .before .before .before .before .before .before .before .before .before .before .before .before .before .before .before .before .before .before .before .pre .0) (c .before .before .before .before .before .before .before .before .before .before .before .before .before .before .before .read-weights .last .1 .0) (c .before .before .before .before .before .before .before .before .before .before .before .before .before .before .before .read-weights .ensures) (sym (c .before .before .before .before .before .before .before .before .before .before .before .division-number .ensures) ∙ c .before .before .before .before .before .before .before .before .before .before .if1 .left) (now (c .before .before .before .before .before .before .before .before .before .before .before .before .before .before .before .before .before .before .before .before .before .args .parts)) _ (c .before .before .before .before .before .before .before .before .before .before .before .before .before .before .before .before .before .before .before .before .before .pre .1)
-    (c .before .before .put-amounts .ensures ∙ ap (λ l. Rattle.basis.specs.Numbers.written (now (c .before .before .before .before .before .before .before .before .before .before .before .before .before .before .before .before .before .before .before .before .before .args .amounts)) 0 (Rattle.basis.specs.Numbers.allBytesOf 8 l)) (c .before .before .before .before .before .before .before .divide .ensures .amounts))
+    (c .before .before .put-numbers .ensures ∙ ap (λ l. Rattle.basis.specs.Numbers.written (now (c .before .before .before .before .before .before .before .before .before .before .before .before .before .before .before .before .before .before .before .before .before .args .amounts)) 0 (Rattle.basis.specs.Numbers.allBytesOf 8 l)) (c .before .before .before .before .before .before .before .divide .ensures .amounts))
 
 pub divide-buffer-spec : {M : Type 1} → statement M
 divide-buffer-spec =
@@ -55,7 +55,7 @@ divide-buffer-spec =
     same-length
     returns
     divide-requires
-    put-amounts-requires
+    put-numbers-requires
     same-length-2
     same-length-3
     same-length-4

@@ -1,0 +1,2 @@
+-- Definitions of a run in words.
+pub mod Summary
