@@ -1,4 +1,6 @@
 // Numbers in a buffer of bytes, low byte first, read and written at any place and any width up to eight bytes.
+#![tactic(auto)]
+
 ghost use Rattle.std.specs.Prelude.{◌≡◌, ◌+◌, ◌*◌, ◌≤◌, ◌<◌, ◌^◌, length};
 ghost use Rattle.basis.specs.Numbers.{number_at, bytes_of, all_bytes_of, written};
 

@@ -1,4 +1,6 @@
 // Level Year: the book of a year, and a function for each call.
+#![tactic(auto)]
+
 mod begun; // begun.rt: the year
 pub mod calls; // calls.rt: a function for each call, and one for any
 mod settlement; // settlement.rt: what is decided of a call, settled in the book

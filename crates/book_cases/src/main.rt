@@ -1,5 +1,7 @@
 // Runs the journal of standard input, up to 65,536 bytes, and writes the place and the number of each record read, the stop, and what
 // the book then answers, in the form of the listing.
+#![tactic(auto)]
+
 use libc::{STDIN_FILENO, STDOUT_FILENO};
 use questions::{Adjustment, ProducerTotals, Signed, UnitOffers};
 use record::{Call, Read};
@@ -16,7 +18,7 @@ const CONSUMERS: u32 = quantities::CONSUMERS as u32;
 const TURNS: u32 = 65_537;
 
 // A journal underway: the book, the place of the next record, the records read and accepted, and the stop's number.
-#[derive(Drop)]
+#[derive(Clone, Copy)]
 struct Run {
     book: Book,
     at: usize,

@@ -1,4 +1,6 @@
 // Level Year: the close. Adjusted demand, charges and credits.
+#![tactic(auto)]
+
 mod adjusted; // adjusted.rt: adjusted demand, and number 14
 mod closing; // closing.rt: the close
 mod money; // money.rt: positive adjustments, charges and their sums

@@ -8,7 +8,7 @@ use state::{Consumer, Declaration, FIRM, Figures, GATHERING, Reading, Stage, sta
 use table::{ConsumerCall, consumer_number};
 
 // A refusal with its number, or the consumer that is to be stored.
-#[derive(Drop)]
+#[derive(Clone, Copy)]
 pub enum ConsumerAnswer {
     Refused(u32),
     Stored(Consumer),

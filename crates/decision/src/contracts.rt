@@ -11,7 +11,7 @@ use state::{CELLS, Declaration, FIRM, Stage, stage_number};
 use table::{ContractCall, contract_number};
 
 // A refusal with its number, or the balance that is to be stored, and its cell.
-#[derive(Drop)]
+#[derive(Clone, Copy)]
 pub enum BalanceAnswer {
     Refused(u32),
     Stored { cell: usize, balance: u32 },

@@ -1,4 +1,6 @@
 // Level Year: what a call of a consumer or of a contract comes to, decided from the parts of the book that it concerns. Nothing is changed.
+#![tactic(auto)]
+
 mod consumers; // consumers.rt: calls of a consumer
 mod contracts; // contracts.rt: calls of a contract
 

@@ -13,7 +13,7 @@ use words::{put_at_place, put_figure};
 pub const LONGEST_FINDINGS: usize = 20 * LONGEST_LINE;
 
 // The bytes of an input's output and of the findings.
-#[derive(Drop)]
+#[derive(Clone, Copy)]
 pub struct Sizes {
     pub output: usize,
     pub findings: usize,

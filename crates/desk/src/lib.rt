@@ -1,4 +1,6 @@
 // The trader's desk: what the program says of a journal, a line for each record's reply, the run in words, the printed close, and what is found wrong with it.
+#![tactic(auto)]
+
 mod findings; // findings.rt: what is found wrong with a journal
 mod printing; // printing.rt: the printed close
 mod replies; // replies.rt: the replies, line by line

@@ -15,7 +15,7 @@ use words::{put_call, put_figure, put_said};
 pub const LONGEST_REPLY: usize = (FIELDS + GREATEST_COUNT as usize + 7) * LONGEST_LINE;
 
 // The replies that are still to be told: at most so many lines, from a place on, with the book that the calls before it have made.
-#[derive(Drop)]
+#[derive(Clone, Copy)]
 pub struct Rest {
     pub left: usize,
     pub place: usize,
@@ -23,7 +23,7 @@ pub struct Rest {
 }
 
 // The bytes of the line that was put, and the replies behind it.
-#[derive(Drop)]
+#[derive(Clone, Copy)]
 pub struct Told {
     pub size: usize,
     pub rest: Rest,

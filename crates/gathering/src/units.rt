@@ -12,7 +12,7 @@ use state::{GATHERING, Stage, Unit, stage_number};
 use table::{Call, UnitCall, unit_number};
 
 // A refusal with its number, or the unit that is to be stored.
-#[derive(Drop)]
+#[derive(Clone, Copy)]
 pub enum UnitAnswer {
     Refused(u32),
     Stored(Unit),

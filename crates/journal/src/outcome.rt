@@ -6,13 +6,13 @@ ghost use Rattle.journal.specs.Tally.{no_tally, tallied, run_with};
 use state::Book;
 
 // The place of the first record that was refused, with its number, if any was.
-#[derive(Drop)]
+#[derive(Clone, Copy)]
 pub enum FirstRefused {
     Nothing,
     At { place: usize, number: u32 },
 }
 
-#[derive(Drop)]
+#[derive(Clone, Copy)]
 pub struct Run {
     pub book: Book,
     // Records; the one at which the reading stopped is in no count.
@@ -26,7 +26,7 @@ pub struct Run {
 }
 
 // What a run has counted, and where it stands, apart from its book.
-#[derive(Drop)]
+#[derive(Clone, Copy)]
 pub struct Tally {
     pub read: usize,
     pub accepted: usize,

@@ -1,4 +1,6 @@
 // The listing of a run, line by line ("Journal in, listing out").
+#![tactic(auto)]
+
 mod lines; // lines.rt: the listing, letter after letter
 mod output; // output.rt: what the program writes for its input
 
@@ -13,7 +15,7 @@ use text::{LONGEST_LINE, put_text};
 pub const LONGEST: usize = (UNITS + PRODUCERS + 2 * CONSUMERS + 2) * LONGEST_LINE;
 
 // 15 where the buffer is shorter than the text, else 0 and the bytes of the text.
-#[derive(Drop)]
+#[derive(Clone, Copy)]
 pub struct Listed {
     pub number: u32,
     pub size: usize,

@@ -1,4 +1,6 @@
 // The printed close on 36 columns: a line for each declared consumer of a closed book, 50 to a page, each page with its heading.
+#![tactic(auto)]
+
 mod lines; // lines.rt: a heading and a line
 mod pages; // pages.rt: all lines with their headings, and where they stand
 
@@ -12,7 +14,7 @@ use pages::{count_declared, put_lines, size_of};
 use state::{Book, CLOSED, Stage, stage_number};
 
 // 4 where the book is not closed, 15 where the buffer is shorter than the text, else 0 and the bytes of the text.
-#[derive(Drop)]
+#[derive(Clone, Copy)]
 pub struct Printed {
     pub number: u32,
     pub size: usize,

@@ -6,7 +6,7 @@ ghost use Rattle.plant.specs.Efficient.{counted, efficient_offer, year_sum, chos
 use quantities::{FIRST_YEAR, FORCED_GENERATION, SECOND_YEAR, UNITS, is_flagged};
 
 // The simulated year that was chosen, 1 or 2, and each unit's efficient offer in kW.
-#[derive(Drop)]
+#[derive(Clone, Copy)]
 pub struct Efficient {
     pub year: u32,
     pub offers: [u32; UNITS],

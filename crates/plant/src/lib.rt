@@ -1,4 +1,6 @@
 // Level Plant: maximum power from test readings, availability and the firm offers.
+#![tactic(auto)]
+
 mod availability; // availability.rt: the minutes of an availability, and power times c
 mod efficient; // efficient.rt: the efficient offers of all units
 mod offer; // offer.rt: the firm offer of the eight kinds

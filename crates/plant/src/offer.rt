@@ -6,7 +6,7 @@ use crate::availability::{available_power, is_held, times_c};
 use power::{Component, Kw, Kwh, Measured, least, maximum_power, over_hours};
 
 // The hours of the stage of greatest thermal requirement, its hours of maximum demand, and those per day.
-#[derive(Drop)]
+#[derive(Clone, Copy)]
 pub struct Hours {
     pub nhrm: u32,
     pub nhmd: u32,
@@ -14,7 +14,7 @@ pub struct Hours {
 }
 
 // A plant: its kind, whether it holds a supply report, guaranteed power, firm energies and storable energy.
-#[derive(Drop)]
+#[derive(Clone, Copy)]
 pub struct Plant {
     pub kind: u32,
     pub report: bool,

@@ -5,7 +5,7 @@ ghost use Rattle.std.specs.Prelude.{◌≤◌, ◌<◌, length};
 pub const MOST: usize = 112;
 
 // The numbers of a line so far, and the one that is being read. Behind the last stand zeros.
-#[derive(Drop)]
+#[derive(Clone, Copy)]
 pub struct Line {
     pub values: [u32; MOST],
     pub count: usize,

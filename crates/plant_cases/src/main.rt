@@ -5,6 +5,8 @@
 //     2 component hd hmp hif hed                          an availability: number
 //     3 kind report ppr e1 e2 cap nhrm nhmd ndhmd         the firm offer
 //     4 flags offer flags offer ..                        the chosen year, the efficient offers
+#![tactic(auto)]
+
 ghost use Rattle.std.specs.Prelude.{◌≡◌, ◌≤◌, length};
 
 mod line; // line.rt: lines of decimal numbers
@@ -21,7 +23,7 @@ const READINGS: usize = 106;
 const BYTES: usize = 424;
 
 // The unit that the lines are about.
-#[derive(Drop)]
+#[derive(Clone, Copy)]
 struct Unit {
     set: Component,
     generator: Component,

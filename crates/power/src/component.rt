@@ -5,14 +5,14 @@ ghost use Rattle.power.specs.Power.{fresh};
 use crate::quantity::Kw;
 
 // The result of a component's tests.
-#[derive(Drop)]
+#[derive(Clone, Copy)]
 pub enum Measured {
     Nothing,
     Power(Kw),
 }
 
 // The minutes of an availability: available, planned maintenance, forced outage, equivalent degradation.
-#[derive(Drop)]
+#[derive(Clone, Copy)]
 pub struct Minutes {
     pub hd: u32,
     pub hmp: u32,
@@ -21,21 +21,21 @@ pub struct Minutes {
 }
 
 // A component's availability.
-#[derive(Drop)]
+#[derive(Clone, Copy)]
 pub enum Availability {
     Unknown,
     Known(Minutes),
 }
 
 // The authorised injection PIC, if given.
-#[derive(Drop)]
+#[derive(Clone, Copy)]
 pub enum Cap {
     Free,
     At(Kw),
 }
 
 // A component: its result, whether its last ending-2 test was void with no result since, its availability.
-#[derive(Drop)]
+#[derive(Clone, Copy)]
 pub struct Component {
     pub result: Measured,
     pub void_trip: bool,
@@ -43,7 +43,7 @@ pub struct Component {
 }
 
 // The number of a call on a component, 0 if accepted, and the component after it.
-#[derive(Drop)]
+#[derive(Clone, Copy)]
 pub struct Answer {
     pub number: u32,
     pub component: Component,

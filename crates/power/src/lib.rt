@@ -1,4 +1,6 @@
 // Level Plant, its lower part: kW and kWh, what is kept for a component, tests and the maximum power that they give.
+#![tactic(auto)]
+
 mod card; // card.rt: the card of least counts, and by it whether a test reached 80 %
 mod component; // component.rt: what is kept for a component
 mod power; // power.rt: tests and maximum power

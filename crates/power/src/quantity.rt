@@ -3,11 +3,11 @@ ghost use Rattle.std.specs.Prelude.{◌≡◌, ◌≤◌};
 ghost use Rattle.power.specs.Quantity.{quarters_of_hour, least, over_quarters, over_hours};
 
 // A power in kilowatts.
-#[derive(Drop)]
+#[derive(Clone, Copy)]
 pub struct Kw(pub u32);
 
 // An energy in kilowatt-hours.
-#[derive(Drop)]
+#[derive(Clone, Copy)]
 pub struct Kwh(pub u32);
 
 // Quarters in an hour.

@@ -1,4 +1,6 @@
 // The limits of document 01, each once: "Quantities", the ranges of "Journal records", "Division by shares"; and the flags of a unit.
+#![tactic(auto)]
+
 mod flags; // flags.rt: the flags of a unit
 
 pub use flags::{

@@ -1,4 +1,6 @@
 // What a listing or a screen asks of a book. A number out of its range has the answer of one that is not there.
+#![tactic(auto)]
+
 ghost use Rattle.std.specs.Prelude.{◌≡◌};
 ghost use Rattle.state.specs.State.{stage_number};
 ghost use Rattle.questions.specs.Questions.{owned_by, has_unit, offers_by, signed_of, adjustment_by};
@@ -11,28 +13,28 @@ use quantities::{CONSUMERS, PRODUCERS, UNITS};
 use state::{Book, CLOSED, Declaration, Enrolment, Stage, Unit, stage_number};
 
 // A unit's firm and efficient offer, kW, 0 before the fix.
-#[derive(Drop)]
+#[derive(Clone, Copy)]
 pub enum UnitOffers {
     NotEnrolled,
     Offers { firm: u32, efficient: u32 },
 }
 
 // What a producer may commit, 0 before the fix, and the sum of its balances, kW.
-#[derive(Drop)]
+#[derive(Clone, Copy)]
 pub enum ProducerTotals {
     WithoutUnit,
     Totals { limit: u32, committed: u64 },
 }
 
 // A number with its sign.
-#[derive(Drop)]
+#[derive(Clone, Copy)]
 pub enum Signed {
     Plus(u64),
     Minus(u64),
 }
 
 // A consumer's ADF in kW, its charge and its credit in cents, once the year is closed.
-#[derive(Drop)]
+#[derive(Clone, Copy)]
 pub enum Adjustment {
     Unsettled,
     Settled {
@@ -43,7 +45,7 @@ pub enum Adjustment {
 }
 
 // The sums of charges and of credits, and what is distributed to nobody, cents.
-#[derive(Drop)]
+#[derive(Clone, Copy)]
 pub struct CloseTotals {
     pub charged: u64,
     pub credited: u64,

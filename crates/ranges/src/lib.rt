@@ -1,4 +1,6 @@
 // Number 3: what the ranges of a call's single fields leave, and the number of any call.
+#![tactic(auto)]
+
 ghost use Rattle.std.specs.Prelude.{◌≡◌};
 ghost use Rattle.table.specs.Ranges.{unit_in_range, rest_in_range, call_number};
 

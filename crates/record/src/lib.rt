@@ -1,4 +1,6 @@
 // The journal's records: the reader and the writer. It shows the calls of the table too.
+#![tactic(auto)]
+
 mod fields; // fields.rt: fields written
 mod sizes; // sizes.rt: the bytes of a record
 mod reading; // reading.rt: the reader

@@ -7,7 +7,7 @@ use crate::sizes::readings_at;
 use table::{Call, Found, Mark, call_of, mark_at};
 
 // What stands at a place: nothing, a record that is cut short, an unknown mark, or a whole record.
-#[derive(Drop)]
+#[derive(Clone, Copy)]
 pub enum Read {
     End,
     Cut,

@@ -1,5 +1,7 @@
 // Reads items of standard input, each a length of two bytes and as many bytes, and writes a line for the record that stands at the
 // start of each: what was read, the number of its call, and what the writer makes of it.
+#![tactic(auto)]
+
 use libc::{STDIN_FILENO, STDOUT_FILENO};
 use record::{Call, Read};
 use table::{FIELDS, fields_of};

@@ -1,4 +1,6 @@
 // Level Share: a total divided among participants in whole units (document 01, "Division by shares").
+#![tactic(auto)]
+
 mod buffers;
 mod parts;
 

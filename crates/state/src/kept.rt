@@ -6,7 +6,7 @@ use quantities::{CONSUMERS, PRODUCERS, UNITS};
 pub const CELLS: usize = PRODUCERS * CONSUMERS;
 
 // The four stages, each leading to the next.
-#[derive(Drop)]
+#[derive(Clone, Copy)]
 pub enum Stage {
     Blank,
     Gathering,
@@ -15,7 +15,7 @@ pub enum Stage {
 }
 
 // What a unit was enrolled with.
-#[derive(Drop)]
+#[derive(Clone, Copy)]
 pub struct Entry {
     pub producer: u32,
     pub flags: u32,
@@ -23,14 +23,14 @@ pub struct Entry {
     pub plant: Plant,
 }
 
-#[derive(Drop)]
+#[derive(Clone, Copy)]
 pub enum Enrolment {
     Vacant,
     Enrolled(Entry),
 }
 
 // A unit: its enrolment and its components, 0 set, 1 generator, 2 storage.
-#[derive(Drop)]
+#[derive(Clone, Copy)]
 pub struct Unit {
     pub enrolment: Enrolment,
     pub set: Component,
@@ -39,34 +39,34 @@ pub struct Unit {
 }
 
 // What a consumer declared, D and A, and its firm demand DF, 0 before the fix, all kW.
-#[derive(Drop)]
+#[derive(Clone, Copy)]
 pub struct Figures {
     pub d: u32,
     pub a: u32,
     pub df: u32,
 }
 
-#[derive(Drop)]
+#[derive(Clone, Copy)]
 pub enum Declaration {
     Undeclared,
     Declared(Figures),
 }
 
 // A consumer's last reading of real demand, kW.
-#[derive(Drop)]
+#[derive(Clone, Copy)]
 pub enum Reading {
     Unread,
     Metered(u32),
 }
 
-#[derive(Drop)]
+#[derive(Clone, Copy)]
 pub struct Consumer {
     pub declaration: Declaration,
     pub reading: Reading,
 }
 
 // The figures of the close: each consumer's DFA in kW, charge and credit in cents, their sums, and what is distributed to nobody.
-#[derive(Drop)]
+#[derive(Clone, Copy)]
 pub struct CloseFigures {
     pub adjusted: [u32; CONSUMERS],
     pub charges: [u64; CONSUMERS],
@@ -76,7 +76,7 @@ pub struct CloseFigures {
     pub undistributed: u64,
 }
 
-#[derive(Drop)]
+#[derive(Clone, Copy)]
 pub struct Book {
     pub stage: Stage,
     pub hours: Hours,
@@ -94,7 +94,7 @@ pub struct Book {
 }
 
 // The number of a call, 0 if accepted, and the book after it.
-#[derive(Drop)]
+#[derive(Clone, Copy)]
 pub struct Reply {
     pub number: u32,
     pub book: Book,

@@ -1,4 +1,6 @@
 // Level Year: what the book of a year keeps, a fresh book, the stages by their numbers, and the places of a unit and a consumer.
+#![tactic(auto)]
+
 mod blank; // blank.rt: a fresh book
 mod kept; // kept.rt: what the book keeps
 mod places; // places.rt: where a unit and a consumer stand

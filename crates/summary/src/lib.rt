@@ -1,5 +1,7 @@
 // The run of a journal in words: its counts, where and why the reading stopped, and the first refused record.
 // For our own crates and not for buyers, as `text` is: a function here requires that the buffer has room for what it puts.
+#![tactic(auto)]
+
 ghost use Rattle.std.specs.Prelude.{◌+◌, ◌≤◌, length};
 ghost use Rattle.text.specs.Text.{Puts};
 ghost use Rattle.summary.specs.Summary.{counts, counts_most, stop_line, stop_most, first_line, first_most, summary_of, summary_most};

@@ -14,7 +14,7 @@ use quantities::{GREATEST_DAY_HOURS, GREATEST_HOURS, GREATEST_POWER, GREATEST_PR
 
 // A call by what it concerns, with its fields in the table's order: the whole book, a unit, a consumer, or a producer's contract with a
 // consumer.
-#[derive(Drop)]
+#[derive(Clone, Copy)]
 pub enum Call {
     Year {
         nhrm: u32,

@@ -24,14 +24,14 @@ const METER_SIZE: usize = 7;
 const CONSUMERS: u32 = quantities::BYTE_CONSUMERS as u32;
 
 // The records of a consumer.
-#[derive(Drop)]
+#[derive(Clone, Copy)]
 pub enum ConsumerMark {
     Declare,
     Meter,
 }
 
 // What is told of a consumer.
-#[derive(Drop)]
+#[derive(Clone, Copy)]
 pub enum ConsumerCall {
     Declare { d: u32, a: u32 },
     Meter { dreal: u32 },

@@ -24,14 +24,14 @@ const PRODUCERS: u32 = quantities::PRODUCERS as u32;
 const CONSUMERS: u32 = quantities::BYTE_CONSUMERS as u32;
 
 // The records of a contract.
-#[derive(Drop)]
+#[derive(Clone, Copy)]
 pub enum ContractMark {
     Commit,
     Release,
 }
 
 // What is done to a contract.
-#[derive(Drop)]
+#[derive(Clone, Copy)]
 pub enum ContractCall {
     Commit { q: u32 },
     Release { q: u32 },

@@ -7,7 +7,7 @@ use crate::units::UnitMark;
 pub const FIELDS: usize = 9;
 
 // The records, by what they concern: the whole book, a unit, a consumer, a contract.
-#[derive(Drop)]
+#[derive(Clone, Copy)]
 pub enum Mark {
     Year,
     Fix,
@@ -18,7 +18,7 @@ pub enum Mark {
 }
 
 // The record that a mark names, if any, with the bytes of mark and fields together, and of each reading behind them.
-#[derive(Drop)]
+#[derive(Clone, Copy)]
 pub enum Found {
     Nothing,
     One {
@@ -30,7 +30,7 @@ pub enum Found {
 
 // A record's mark, low byte first, the bytes of mark and fields together, each field's width, and the bytes of each reading behind the
 // fields.
-#[derive(Drop)]
+#[derive(Clone, Copy)]
 pub struct Form {
     pub mark: u32,
     pub size: usize,
@@ -39,7 +39,7 @@ pub struct Form {
 }
 
 // A call's fields as its record has them: the form, the values, 0 where there is no field, and whether each is in range.
-#[derive(Drop)]
+#[derive(Clone, Copy)]
 pub struct Fields {
     pub form: Form,
     pub values: [u32; FIELDS],
@@ -47,7 +47,7 @@ pub struct Fields {
 }
 
 // The fields that a kind of unit uses, with the flag of its supply report.
-#[derive(Drop)]
+#[derive(Clone, Copy)]
 pub struct Uses {
     pub report: bool,
     pub ppr: bool,

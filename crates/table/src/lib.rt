@@ -1,4 +1,6 @@
 // The table of the journal's records: the calls, their fields, marks and ranges.
+#![tactic(auto)]
+
 mod forms; // forms.rt: the marks, the form of a record, a call's fields
 mod single; // single.rt: a single field, read and tested
 mod units; // units.rt: the records of a unit

@@ -36,7 +36,7 @@ const UNITS: u32 = quantities::UNITS as u32;
 const PRODUCERS: u32 = quantities::PRODUCERS as u32;
 
 // The records of a unit.
-#[derive(Drop)]
+#[derive(Clone, Copy)]
 pub enum UnitMark {
     Enrol,
     Test,
@@ -45,7 +45,7 @@ pub enum UnitMark {
 
 // What is asked of a unit, with the fields of its record behind the unit. A test's readings are lent beside the call, four bytes each, low
 // byte first.
-#[derive(Drop)]
+#[derive(Clone, Copy)]
 pub enum UnitCall {
     Enrol {
         producer: u32,

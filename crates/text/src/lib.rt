@@ -1,5 +1,7 @@
 // Text in a buffer of bytes: amounts in decimal digits, and lines of them.
 // For our own crates and not for buyers, as `basis` is: a function here requires that the buffer has room for what it puts.
+#![tactic(auto)]
+
 mod columns; // columns.rt: amounts in columns
 
 ghost use Rattle.std.specs.Prelude.{◌≡◌, [], ◌∷◌, ◌+◌, ◌*◌, ◌≤◌, length, take};
@@ -8,7 +10,7 @@ ghost use Rattle.text.specs.Text.{Puts, amount_most, spaced_most, line_amounts, 
 pub use columns::put_column;
 
 // An amount with its sign: plus less minus.
-#[derive(Drop)]
+#[derive(Clone, Copy)]
 pub struct Amount {
     pub plus: u64,
     pub minus: u64,
@@ -23,7 +25,7 @@ pub const LONGEST_AMOUNT: usize = 21;
 pub const LONGEST_LINE: usize = LINE_AMOUNTS * (LONGEST_AMOUNT + 1) + 2;
 
 // A line: its letter, and the first `count` of the amounts.
-#[derive(Drop)]
+#[derive(Clone, Copy)]
 pub struct Line {
     pub letter: u8,
     pub count: usize,

@@ -1,5 +1,7 @@
 // The numbered replies and the calls in words.
 // For our own crates and not for buyers, as `text` is: a function here requires that the buffer has room for what it puts.
+#![tactic(auto)]
+
 mod calls; // calls.rt: a call in words
 mod conditions; // conditions.rt: when a number is met, in document 01's words
 mod numbers; // numbers.rt: the numbered replies in words

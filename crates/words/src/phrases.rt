@@ -9,7 +9,7 @@ use text::put_text;
 pub const LONGEST_PHRASE: usize = 40;
 
 // The first `length` of the bytes; those behind are blanks.
-#[derive(Drop)]
+#[derive(Clone, Copy)]
 pub struct Phrase {
     pub length: usize,
     pub bytes: [u8; LONGEST_PHRASE],

@@ -3,7 +3,7 @@ use crate::output::print;
 use libc::STDERR_FILENO;
 
 // What is printed of a journal.
-#[derive(Drop)]
+#[derive(Clone, Copy)]
 pub enum Asked {
     Listing,
     Replies,
@@ -12,7 +12,7 @@ pub enum Asked {
 }
 
 // What the first argument asks for, or that it is a file; what begins with a minus sign and is no word is unknown.
-#[derive(Drop)]
+#[derive(Clone, Copy)]
 pub enum Word {
     Print(Asked),
     Help,

@@ -1,4 +1,6 @@
 // `yearbook [replies | run | page] [FILE] | yearbook help`: words, reading and writing. What is printed of a journal is made in `desk`.
+#![tactic(auto)]
+
 mod arguments; // arguments.rt: what the program is asked for
 mod input; // input.rt: the input, read whole
 mod output; // output.rt: what goes to standard output and standard error

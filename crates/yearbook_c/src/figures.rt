@@ -11,7 +11,7 @@ const FIGURES: usize = 8;
 const FIGURES_SIZE: usize = 8 * FIGURES;
 
 // How many refused records are named, the place and the number of the one that is; 0 where none is.
-#[derive(Drop)]
+#[derive(Clone, Copy)]
 pub struct Named {
     pub count: u64,
     pub place: u64,

@@ -1,4 +1,6 @@
 // Level Year as C calls it (include/yearbook.h).
+#![tactic(auto)]
+
 mod figures; // figures.rt: the figures of a journal's run
 mod listed; // listed.rt: the listing of a journal
 mod printed; // printed.rt: the printed close of a journal

@@ -1,0 +1,16 @@
+-- `basis::put_numbers` meets its contract. The invariant: with the numbers still to come written over it, the buffer is what it is to be.
+-- Assumes nothing.
+use mathlib.Core.Path.{◌≡◌, refl, sym, ap, ◌∙◌}
+use Prim.Native.Nat.{ℕ, suc, ◌+◌, ◌-◌, ◌*◌, ◌≤◌, ◌<◌}
+use lib.ListN.{length, get_or, drop, drop_of_length-le, length-append}
+use Rattle.basis.specs.Numbers.{bytes_of, all_bytes_of, written}
+use Rattle.basis.proofs.put_numbers.Given as goal
+
+abbrev pub invariant-loop-i : goal.invariant-loop-i
+invariant-loop-i l =
+    (l.i ≤ length l.numbers) × (length l.out ≡ length l.initial.out)
+    × (l.at + length (rest l.width l.numbers l.i) ≤ length l.initial.out)
+    × (written l.out l.at (rest l.width l.numbers l.i) ≡ written l.initial.out 0 (all_bytes_of l.width l.numbers))
+
+abbrev pub decreases-loop-i : goal.decreases-loop-i
+decreases-loop-i l = length l.numbers - l.i

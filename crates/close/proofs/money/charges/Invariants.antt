@@ -1,0 +1,14 @@
+-- `close::charges` meets its contract. The invariant: the consumers passed have their charges. Assumes nothing.
+use Prim.Native.Nat.{◌-◌}
+use lib.ListN.{get_or}
+use Rattle.quantities.specs.Limits.{greatest_power, consumers}
+use Rattle.state.specs.State.{fresh_consumer}
+use Rattle.close.specs.Close.{charge_by}
+use Rattle.basis.proofs.Filling.{Filling, starts, next, ends}
+use Rattle.close.proofs.money.charges.Given as goal
+
+abbrev pub invariant-loop-i : goal.invariant-loop-i
+invariant-loop-i l = Filling (λ k. charge_by l.p (get_or l.adjusted k 0) (get_or l.consumers k fresh_consumer).declaration) consumers l.charges l.i
+
+abbrev pub decreases-loop-i : goal.decreases-loop-i
+decreases-loop-i l = consumers - l.i

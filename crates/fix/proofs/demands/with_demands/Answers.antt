@@ -1,0 +1,21 @@
+use Prim.Native.Nat.{◌-◌}
+use lib.ListN.{get_or}
+use Rattle.quantities.specs.Limits.{consumers}
+use Rattle.state.specs.State.{fresh_consumer}
+use Rattle.fix.specs.Fix.{with_demand, with_demands}
+use Rattle.basis.proofs.Filling.{Filling, starts, next, ends}
+use Rattle.fix.proofs.demands.with_demands.Goals as goal
+
+pub loop-i-init : goal.loop-i-init
+loop-i-init c = starts _ consumers _ c.well-formed.1.0.1.0.1
+
+pub loop-i-preserved : goal.loop-i-preserved
+loop-i-preserved c =
+    let l = c.loop-i in
+    next _ consumers l.after l.i c.with_demand.result c.loop-i-test.true l.invariant c.with_demand.ensures
+
+pub returns : goal.returns
+unfolding with_demands
+returns c =
+    let l = c.loop-i in
+    ends _ consumers l.after l.i c.loop-i-test.false l.invariant

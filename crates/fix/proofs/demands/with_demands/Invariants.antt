@@ -1,0 +1,14 @@
+-- `fix::with_demands` meets its contract. The invariant: the consumers passed have their firm demands. Assumes nothing.
+use Prim.Native.Nat.{◌-◌}
+use lib.ListN.{get_or}
+use Rattle.quantities.specs.Limits.{consumers}
+use Rattle.state.specs.State.{fresh_consumer}
+use Rattle.fix.specs.Fix.{with_demand, with_demands}
+use Rattle.basis.proofs.Filling.{Filling, starts, next, ends}
+use Rattle.fix.proofs.demands.with_demands.Given as goal
+
+abbrev pub invariant-loop-i : goal.invariant-loop-i
+invariant-loop-i l = Filling (λ k. with_demand (get_or l.demands k 0) (get_or l.consumers k fresh_consumer)) consumers l.after l.i
+
+abbrev pub decreases-loop-i : goal.decreases-loop-i
+decreases-loop-i l = consumers - l.i

@@ -1,0 +1,15 @@
+-- `letters::put_settlements` meets its contract. The invariant: the lines of the first i consumers stand in the buffer. Assumes nothing.
+use mathlib.Core.Path.{◌≡◌, refl}
+use Prim.Native.Nat.{◌-◌, ◌*◌, ◌≤◌}
+use lib.ListN.{length}
+use Rattle.quantities.specs.Limits.{consumers}
+use Rattle.text.specs.Text.{Puts, line_most, joined}
+use Rattle.letters.specs.Letters.{settlement_line_at, settlement_lines}
+use Rattle.letters.proofs.consumers.put_settlements.Given as goal
+
+abbrev pub invariant-loop-i : goal.invariant-loop-i
+invariant-loop-i l =
+    (l.i ≤ consumers) × (length l.out ≡ length l.initial.out) × Puts (l.i * line_most) (joined (settlement_line_at l.consumers l.adjusted l.charges l.credits) l.i) l.initial.out l.at l.place l.out
+
+abbrev pub decreases-loop-i : goal.decreases-loop-i
+decreases-loop-i l = consumers - l.i

@@ -1,0 +1,22 @@
+-- `ranges::rest_in_range` meets its contract: each arm by the definition's own clause.
+-- Assumes nothing.
+use Rattle.table.specs.Ranges.{rest_in_range}
+use Rattle.ranges.proofs.rest_in_range.Goals as goal
+
+pub returns-in-Year : goal.returns-in-Year
+returns-in-Year c = rw c.in-Year.is
+
+pub returns-in-Fix : goal.returns-in-Fix
+returns-in-Fix c = rw c.in-Fix.is
+
+pub returns-in-Close : goal.returns-in-Close
+returns-in-Close c = rw c.in-Close.is
+
+pub returns-in-Unit : goal.returns-in-Unit
+returns-in-Unit c = rw c.in-Unit.is c.unit_in_range.ensures
+
+pub returns-in-Consumer : goal.returns-in-Consumer
+returns-in-Consumer c = rw c.in-Consumer.is
+
+pub returns-in-Contract : goal.returns-in-Contract
+returns-in-Contract c = rw c.in-Contract.is

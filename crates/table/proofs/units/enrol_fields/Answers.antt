@@ -1,0 +1,31 @@
+-- `table::units::enrol_fields` meets its contract: by the table's line.
+-- Assumes nothing.
+use Rattle.basis.specs.Sums.{sum}
+use Rattle.basis.proofs.Choice.{alone}
+use Rattle.table.specs.Fields.{within_all}
+use Rattle.table.specs.Ranges.{fields_of}
+use Rattle.table.specs.Records.{table_of, form_of, parts_of}
+use Rattle.table.proofs.units.enrol_fields.Goals as goal
+
+pub returns : goal.returns
+unfolding table_of form_of parts_of fields_of within_all sum
+returns c = simp (
+  alone,
+  c.both-8.ensures,
+  c.both-7.ensures,
+  c.both-6.ensures,
+  c.both-5.ensures,
+  c.both-4.ensures,
+  c.both-3.ensures,
+  c.both-2.ensures,
+  c.both.ensures,
+  c.is_between-9.ensures,
+  c.is_between-8.ensures,
+  c.is_between-7.ensures,
+  c.is_between-6.ensures,
+  c.is_between-5.ensures,
+  c.is_between-4.ensures,
+  c.is_between-3.ensures,
+  c.is_between-2.ensures,
+  c.is_between.ensures,
+)

@@ -1,0 +1,11 @@
+-- `yearbook_c::yearbook_run` meets its contract. Assumes nothing.
+use Rattle.yearbook_c.proofs.Told.{figures_refused, figures_put}
+use Rattle.yearbook_c.proofs.figures.yearbook_run.Goals as goal
+
+pub returns-then-figures-lt-FIGURES_SIZE : goal.returns-then-figures-lt-FIGURES_SIZE
+returns-then-figures-lt-FIGURES_SIZE c = figures_refused c.args.journal.now c.args.figures.now c.if-figures-lt-FIGURES_SIZE.true
+
+pub returns : goal.returns
+returns c =
+    let a = c.args in
+    figures_put a.journal.now a.figures.now c.if-figures-lt-FIGURES_SIZE.false c.run.ensures c.figures_of-told.ensures.0 c.figures_of-told.ensures.1 c.put_numbers.ensures
