@@ -1,4 +1,4 @@
-// The division as C calls it, over buffers of bytes.
+// The division over buffers of bytes, as the functions for C have it.
 ghost use Rattle.std.specs.Prelude.{◌≡◌, ◌*◌, ◌≤◌, length};
 ghost use Rattle.basis.specs.Numbers.{numbers_of};
 ghost use Rattle.share.specs.Buffers.{Shares};
@@ -40,8 +40,7 @@ pub(crate) fn divide_buffer(
 }
 
 // Divides a total by weights of four bytes each into amounts of eight bytes each, low byte first; answers the number met.
-#[unsafe(no_mangle)]
-pub extern "C" fn share_divide(total: u64, weights: &[u8], amounts: &mut [u8]) -> u32
+pub fn share_divide(total: u64, weights: &[u8], amounts: &mut [u8]) -> u32
     ensures { Shares total weights.now amounts.old result amounts.new }
 {
     if weights.len() % 4 != 0 {

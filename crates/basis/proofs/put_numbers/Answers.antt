@@ -7,11 +7,8 @@ use lib.ListN.{length, get_or, drop, drop_of_length-le, length-append}
 use lib.Seq.{drop-cons}
 use Rattle.basis.specs.Numbers.{bytes_of, all_bytes_of, written}
 use Rattle.basis.proofs.Numbers.{length-bytes_of, length-all_bytes_of, length-written, written_none, written-append}
+use Rattle.basis.proofs.put_numbers.Invariants.{rest}
 use Rattle.basis.proofs.put_numbers.Goals as goal
-
--- the bytes of the numbers from i on
-abbrev rest : ℕ → List ℕ → ℕ → List ℕ
-rest w numbers i = all_bytes_of w (drop i numbers)
 
 -- one number and the bytes of the others
 rest_more : (w : ℕ) (ns : List ℕ) (i : ℕ) → i < length ns → length (rest w ns i) ≡ w + length (rest w ns (i + 1))
