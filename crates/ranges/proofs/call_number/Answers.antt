@@ -8,14 +8,14 @@ use Rattle.ranges.proofs.call_number.Goals as goal
 pub returns-then-not-fields : goal.returns-then-not-fields
 returns-then-not-fields c =
     let a = c.args in
-    number_out a.call a.readings.now c.fields_of-fields.ensures (answered_no refl c.if-not-fields.taken)
+    number_out a.call a.readings.now c.fields_of-fields.ensures (answered_no refl c.if-not-fields.true)
 
 pub returns-then-not-rest_in_range : goal.returns-then-not-rest_in_range
 returns-then-not-rest_in_range c =
     let a = c.args in
-    number_rest a.call a.readings.now c.fields_of-fields.ensures (answered_yes refl c.if-not-fields.left) (answered_no c.rest_in_range.ensures c.if-not-rest_in_range.taken)
+    number_rest a.call a.readings.now c.fields_of-fields.ensures (answered_yes refl c.if-not-fields.false) (answered_no c.rest_in_range.ensures c.if-not-rest_in_range.true)
 
 pub returns : goal.returns
 returns c =
     let a = c.args in
-    number_in a.call a.readings.now c.fields_of-fields.ensures (answered_yes refl c.if-not-fields.left) (answered_yes c.rest_in_range.ensures c.if-not-rest_in_range.left)
+    number_in a.call a.readings.now c.fields_of-fields.ensures (answered_yes refl c.if-not-fields.false) (answered_yes c.rest_in_range.ensures c.if-not-rest_in_range.false)

@@ -12,8 +12,9 @@ use Rattle.share.specs.Division.{shares, divided}
 use Rattle.share.proofs.Accepted.{Accepted, accepted, enough}
 use Rattle.share.proofs.Laws.{length-shares}
 use Rattle.share.proofs.divide.Goals as goal
+use Rattle.share.proofs.divide.Goals.{Else-number-ne0}
 
-shown : (c : goal.Else-number-ne0) → Accepted c.args.total c.args.weights.now (length c.args.amounts.now)
+shown : (c : Else-number-ne0) → Accepted c.args.total c.args.weights.now (length c.args.amounts.now)
 shown c =
     let a = c.args in
     accepted a.total a.weights.now (length a.amounts.now) (sym c.division_number-number.ensures ∙ c.if-number-ne0.false)

@@ -4,11 +4,12 @@ use native.Mathlib.Omega.{arith}
 use borrow.Author.Rules.{rules}
 use Rattle.text.proofs.Putting.{decimal-short_64, puts_plus, puts_minus}
 use Rattle.text.proofs.put_amount.Goals as goal
+use Rattle.text.proofs.put_amount.Goals.{Start}
 
-plus_fits : (c : goal.Start) → c.args.amount.plus < 2 ^ 64
+plus_fits : (c : Start) → c.args.amount.plus < 2 ^ 64
 plus_fits c = search rules
 
-minus_fits : (c : goal.Start) → c.args.amount.minus < 2 ^ 64
+minus_fits : (c : Start) → c.args.amount.minus < 2 ^ 64
 minus_fits c = search rules
 
 pub put_decimal-requires : goal.put_decimal-requires

@@ -8,8 +8,9 @@ use Rattle.text.specs.declared.Amount.{Amount}
 use Rattle.text.specs.Text.{Puts, spaced_most, line_amounts, spaced}
 use Rattle.text.proofs.Putting.{puts_none, puts_as, spaced_none, puts_amount}
 use Rattle.text.proofs.put_amounts.Goals as goal
+use Rattle.text.proofs.put_amounts.Goals.{Start}
 
-whole : (c : goal.Start) → length c.args.amounts ≡ line_amounts
+whole : (c : Start) → length c.args.amounts ≡ line_amounts
 whole c = search rules
 
 pub loop-i-init : goal.loop-i-init

@@ -5,9 +5,10 @@ use Rattle.state.specs.declared.kept.Stage.TheVariants.{Blank}
 use Rattle.state.proofs.RangeStage.{RangeThenStage, range_then_stage}
 use Rattle.book.specs.Year.{year_number_by}
 use Rattle.book.proofs.begun.year_number.Goals as goal
+use Rattle.book.proofs.begun.year_number.Goals.{Start}
 
 -- the year's range and stage
-order : (s : goal.Start) → RangeThenStage (Year s.args.nhrm s.args.nhmd s.args.ndhmd) [] Blank s.args.stage 0
+order : (s : Start) → RangeThenStage (Year s.args.nhrm s.args.nhmd s.args.ndhmd) [] Blank s.args.stage 0
 order s = range_then_stage
 
 pub returns-then-number-ne0 : goal.returns-then-number-ne0

@@ -4,9 +4,10 @@ use Rattle.decision.specs.Consumers.{consumer_of}
 use Rattle.decision.specs.declared.consumers.ConsumerAnswer.{ConsumerAnswer}
 use Rattle.decision.proofs.Settled.{settled_consumer, consumer_settled}
 use Rattle.book.proofs.settlement.of_consumer.Goals as goal
+use Rattle.book.proofs.settlement.of_consumer.Goals.{After-consumer_answer-answer}
 
 -- an answer that is stored is the reply
-settled : (c : goal.After-consumer_answer-answer) (x : ConsumerAnswer) → c.consumer_answer-answer.result ≡ x → settled_consumer c.args.book c.consumer_place-place.result x ≡ consumer_of c.args.book c.args.consumer c.args.act
+settled : (c : After-consumer_answer-answer) (x : ConsumerAnswer) → c.consumer_answer-answer.result ≡ x → settled_consumer c.args.book c.consumer_place-place.result x ≡ consumer_of c.args.book c.args.consumer c.args.act
 settled c x e =
     let a = c.args in
     let p = c.consumer_place-place in

@@ -4,9 +4,10 @@ use Rattle.gathering.specs.Units.{unit_of}
 use Rattle.gathering.specs.declared.units.UnitAnswer.{UnitAnswer}
 use Rattle.gathering.proofs.Settled.{settled_unit, unit_settled}
 use Rattle.book.proofs.settlement.of_unit.Goals as goal
+use Rattle.book.proofs.settlement.of_unit.Goals.{After-unit_answer-answer}
 
 -- an answer that is stored is the reply
-settled : (c : goal.After-unit_answer-answer) (x : UnitAnswer) → c.unit_answer-answer.result ≡ x → settled_unit c.args.book c.unit_place-place.result x ≡ unit_of c.args.book c.args.unit c.args.act c.args.readings.now
+settled : (c : After-unit_answer-answer) (x : UnitAnswer) → c.unit_answer-answer.result ≡ x → settled_unit c.args.book c.unit_place-place.result x ≡ unit_of c.args.book c.args.unit c.args.act c.args.readings.now
 settled c x e =
     let a = c.args in
     let p = c.unit_place-place in

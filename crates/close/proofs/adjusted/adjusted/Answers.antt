@@ -10,12 +10,13 @@ use Rattle.close.specs.Close.{real_demand, adjusted_of, adjusted_in}
 use Rattle.basis.proofs.Filling.{Filling, starts, next, ends, tab-map}
 use Rattle.close.proofs.CloseLaws.{adjusted_at, as_adjusted}
 use Rattle.close.proofs.adjusted.adjusted.Goals as goal
+use Rattle.close.proofs.adjusted.adjusted.Goals.{After-adjusted_by}
 
 pub loop-i-init : goal.loop-i-init
 loop-i-init c = starts _ consumers _ refl
 
 -- what was found is the DFA of this consumer
-found : (c : goal.After-adjusted_by) → c.adjusted_by.result ≡ real_demand (get_or c.args.consumers c.loop-i.i fresh_consumer) * c.args.dmp / c.args.total
+found : (c : After-adjusted_by) → c.adjusted_by.result ≡ real_demand (get_or c.args.consumers c.loop-i.i fresh_consumer) * c.args.dmp / c.args.total
 found c =
     let a = c.args in
     c.adjusted_by.ensures ∙ ap (λ real. real * a.dmp / a.total) c.real_demand.ensures

@@ -9,9 +9,10 @@ use Rattle.basis.proofs.Sums.{at_most_all, not_all_at_most}
 use Rattle.quantities.specs.Limits.{greatest_power}
 use Rattle.close.proofs.CloseLaws.{quotient_at_lem}
 use Rattle.close.proofs.adjusted.is_within.Goals as goal
+use Rattle.close.proofs.adjusted.is_within.Goals.{After-adjusted_by}
 
 -- what was found is the DFA of this consumer
-found : (c : goal.After-adjusted_by) → c.adjusted_by.result ≡ get_or (map (λ real. real * c.args.dmp / c.args.total) c.args.reals.now) c.loop-i.i 0
+found : (c : After-adjusted_by) → c.adjusted_by.result ≡ get_or (map (λ real. real * c.args.dmp / c.args.total) c.args.reals.now) c.loop-i.i 0
 found c =
     c.adjusted_by.ensures ∙ sym (quotient_at_lem c.args.dmp c.args.total c.args.reals.now c.loop-i.i)
 

@@ -5,9 +5,10 @@ use Rattle.fix.specs.Fix.{weights_of}
 use Rattle.close.specs.Close.{close_number, close_number_from, close_of}
 use Rattle.close.proofs.CloseLaws.{number_from, accepted-close, refused-close}
 use Rattle.close.proofs.closing.close.Goals as goal
+use Rattle.close.proofs.closing.close.Goals.{After-close_number-number}
 
 -- the number that was found is the close's
-found : (c : goal.After-close_number-number) → c.close_number-number.result ≡ close_number c.args.book c.args.p
+found : (c : After-close_number-number) → c.close_number-number.result ≡ close_number c.args.book c.args.p
 found c =
     let a = c.args in
     c.close_number-number.ensures

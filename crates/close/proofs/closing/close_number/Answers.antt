@@ -10,9 +10,10 @@ use Rattle.state.specs.declared.kept.Stage.TheVariants.{Firm}
 use Rattle.state.proofs.RangeStage.{RangeThenStage, range_then_stage}
 use Rattle.close.specs.Close.{close_number_from}
 use Rattle.close.proofs.closing.close_number.Goals as goal
+use Rattle.close.proofs.closing.close_number.Goals.{Start}
 
 -- the close's range, stage and what is left
-order : (s : goal.Start)
+order : (s : Start)
     → RangeThenStage (Close s.args.p) [] Firm s.args.stage (pick (all_at_most greatest_power (map (λ real. real * s.args.dmp / s.args.total) s.args.reals.now)) 0 14)
 order s = range_then_stage
 

@@ -11,9 +11,10 @@ use Rattle.quantities.specs.Limits.{greatest_power, consumers}
 use Rattle.close.specs.Close.{charges_in, surpluses_in, credits_of, undistributed_of}
 use Rattle.close.proofs.CloseLaws.{charges_fit, charges_by_consumer, surpluses_by_consumer, credits, undistributed, figures_with}
 use Rattle.close.proofs.closing.figures.Goals as goal
+use Rattle.close.proofs.closing.figures.Goals.{After-adjusted-adjusted, After-divide, After-surpluses-surpluses}
 
 -- the charges and the positive ADF
-module _ (c : goal.After-surpluses-surpluses) where
+module _ (c : After-surpluses-surpluses) where
   abbrev start : goal.Start
   start = c.before.before.before.before
 
@@ -34,7 +35,7 @@ module _ (c : goal.After-surpluses-surpluses) where
       ∙ surpluses_by_consumer start.args.dmp found_adjusted start.args.consumers c.adjusted-adjusted.ensures all
 
 -- the division of the charges
-module _ (c : goal.After-divide) where
+module _ (c : After-divide) where
   abbrev found : goal.After-total_of-charged
   found = c.before.before.before
 
@@ -54,7 +55,7 @@ pub adjusted-adjusted-requires : goal.adjusted-adjusted-requires
 adjusted-adjusted-requires c = (c.total_declared-total.ensures, c.requires.1)
 
 -- every DFA is in range
-within : (c : goal.After-adjusted-adjusted) → all_at_most greatest_power c.adjusted-adjusted.result ≡ true
+within : (c : After-adjusted-adjusted) → all_at_most greatest_power c.adjusted-adjusted.result ≡ true
 within c = ap (all_at_most greatest_power) c.adjusted-adjusted.ensures ∙ c.requires.1
 
 pub charges-charges-requires : goal.charges-charges-requires

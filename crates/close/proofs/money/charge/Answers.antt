@@ -7,9 +7,10 @@ use Rattle.quantities.specs.Limits.{greatest_power, greatest_price}
 use Rattle.close.specs.Close.{charge_by}
 use Rattle.close.proofs.Bounds.{priced_at_most}
 use Rattle.close.proofs.money.charge.Goals as goal
+use Rattle.close.proofs.money.charge.Goals.{After-excess}
 
 -- what is priced is at most the DFA, which is in range
-priced : (c : goal.After-excess) → c.excess.result * c.args.p ≤ greatest_power * greatest_price
+priced : (c : After-excess) → c.excess.result * c.args.p ≤ greatest_power * greatest_price
 priced c =
     priced_at_most c.args.p c.excess.result (omega (arith, c.requires.1)) c.requires.0
 

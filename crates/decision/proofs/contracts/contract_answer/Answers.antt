@@ -18,9 +18,10 @@ use Rattle.decision.specs.Consumers.{is_declared}
 use Rattle.decision.specs.ContractCalls.{commit_rest, contract_rest, balance_after, contract_number, balance_answered, contract_answer_of}
 use Rattle.decision.proofs.Rows.{in_row}
 use Rattle.decision.proofs.contracts.contract_answer.Goals as goal
+use Rattle.decision.proofs.contracts.contract_answer.Goals.{After-contract_number-number, After-is_declared}
 
 -- what passed the ranges has a producer and a consumer of the book
-ranges : (w : goal.After-contract_number-number) → w.contract_number-number.result ≡ 0 → ContractRanged w.args.producer w.args.consumer (amount_of w.args.act)
+ranges : (w : After-contract_number-number) → w.contract_number-number.result ≡ 0 → ContractRanged w.args.producer w.args.consumer (amount_of w.args.act)
 ranges w z = contract_numbered w.args.producer w.args.consumer w.args.act _ (sym w.contract_number-number.ensures ∙ z)
 
 pub returns-then-number-ne0 : goal.returns-then-number-ne0
@@ -41,7 +42,7 @@ returns-then-not-is_declared c =
     simp (← c.contract_number-number.ensures, c.if-number-ne0.false, ← c.stage_number.ensures, c.if-stage_number-ne-FIRM.false, answered_no c.is_declared.ensures c.if-not-is_declared.true)
 
 -- from here on the call is in range
-placed : (w : goal.After-is_declared) → ContractRanged w.args.producer w.args.consumer (amount_of w.args.act)
+placed : (w : After-is_declared) → ContractRanged w.args.producer w.args.consumer (amount_of w.args.act)
 placed w = ranges w.before.before.before.before w.if-number-ne0.false
 
 pub overflow_sub-row : goal.overflow_sub-row
@@ -65,7 +66,7 @@ commit_answer-requires c =
     (omega (arith, c.row_sum.ensures.0, in_row a.balances.now ((a.producer - 1) * consumers) consumers (a.consumer - 1) (omega (arith, r.consumer.least, r.consumer.most))), c.row_sum.ensures.1)
 
 -- what is asked, once ranges, stage and declaration let it pass
-asked : (w : goal.After-is_declared) → is_declared w.args.declaration ≡ true → w.stage_number.result ≡ 2 → (act : ContractCall) → w.args.act ≡ act → balance_answered (contract_rest act (get_or w.args.limits.now (w.args.producer - 1) 0) (sum (row_of w.args.balances.now w.args.producer)) (get_or w.args.balances.now (cell_of w.args.producer w.args.consumer) 0)) (cell_of w.args.producer w.args.consumer) (balance_after act (get_or w.args.balances.now (cell_of w.args.producer w.args.consumer) 0)) ≡ contract_answer_of w.args.producer w.args.consumer w.args.act w.args.stage w.args.declaration w.args.balances.now w.args.limits.now
+asked : (w : After-is_declared) → is_declared w.args.declaration ≡ true → w.stage_number.result ≡ 2 → (act : ContractCall) → w.args.act ≡ act → balance_answered (contract_rest act (get_or w.args.limits.now (w.args.producer - 1) 0) (sum (row_of w.args.balances.now w.args.producer)) (get_or w.args.balances.now (cell_of w.args.producer w.args.consumer) 0)) (cell_of w.args.producer w.args.consumer) (balance_after act (get_or w.args.balances.now (cell_of w.args.producer w.args.consumer) 0)) ≡ contract_answer_of w.args.producer w.args.consumer w.args.act w.args.stage w.args.declaration w.args.balances.now w.args.limits.now
 unfolding contract_answer_of contract_number
 asked w t s act e =
     let a = w.args in

@@ -9,9 +9,10 @@ use Rattle.quantities.specs.Limits.{consumers}
 use Rattle.fix.specs.Fix.{weights_of}
 use Rattle.fix.proofs.DivisionLaws.{accepted, each}
 use Rattle.fix.proofs.fixing.divided.Goals as goal
+use Rattle.fix.proofs.fixing.divided.Goals.{After-divide}
 
 -- the division, of as many weights as there are consumers
-module _ (c : goal.After-divide) where
+module _ (c : After-divide) where
   abbrev start : goal.Start
   start = c.before.before.before.before
 

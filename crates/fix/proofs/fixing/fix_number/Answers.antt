@@ -9,9 +9,10 @@ use Rattle.state.specs.declared.kept.Stage.TheVariants.{Gathering}
 use Rattle.state.proofs.RangeStage.{RangeThenStage, range_then_stage}
 use Rattle.fix.specs.Fix.{fix_rest, fix_number_by}
 use Rattle.fix.proofs.fixing.fix_number.Goals as goal
+use Rattle.fix.proofs.fixing.fix_number.Goals.{Start}
 
 -- the fix's range, stage and what is left
-order : (s : goal.Start) → RangeThenStage (Fix s.args.dmp) [] Gathering s.args.stage (fix_rest s.args.dmp s.args.consumers)
+order : (s : Start) → RangeThenStage (Fix s.args.dmp) [] Gathering s.args.stage (fix_rest s.args.dmp s.args.consumers)
 order s = range_then_stage
 
 {- no need slice-aggregate-call-number

@@ -13,9 +13,10 @@ use Rattle.gathering.specs.Units.{has_test, component_rest, test_rest, tested_un
 use Rattle.gathering.specs.declared.units.UnitAnswer.TheVariants.{Refused}
 use Rattle.gathering.proofs.Refusals.{refused_by, stored_by, test-answer, out_of_range, within_range}
 use Rattle.gathering.proofs.components.test_answer.Goals as goal
+use Rattle.gathering.proofs.components.test_answer.Goals.{After-test-answer, After-test_rest-number}
 
 -- the number that the component answers
-module _ (w : goal.After-test-answer) where
+module _ (w : After-test-answer) where
   abbrev ending : ℕ
   ending = w.args.ending
 
@@ -43,7 +44,7 @@ returns-then-stage_number-ne-GATHERING c =
     simp (in_range c.before.before.before.before c.if-answer-eq3.false, ← c.stage_number.ensures, ne_eqb _ _ c.if-stage_number-ne-GATHERING.true)
 
 -- what is left behind 3 and 4
-left : (r : goal.After-test_rest-number) → r.test_rest-number.result ≡ pick (test_in_range (ending r.before.before.before.before.before) (tc r.before.before.before.before.before) (count r.before.before.before.before.before) (bytes r.before.before.before.before.before)) (staged Gathering r.args.stage (test_rest r.args.unit.enrolment r.args.component (ending r.before.before.before.before.before) (tc r.before.before.before.before.before) (count r.before.before.before.before.before) (bytes r.before.before.before.before.before))) 3
+left : (r : After-test_rest-number) → r.test_rest-number.result ≡ pick (test_in_range (ending r.before.before.before.before.before) (tc r.before.before.before.before.before) (count r.before.before.before.before.before) (bytes r.before.before.before.before.before)) (staged Gathering r.args.stage (test_rest r.args.unit.enrolment r.args.component (ending r.before.before.before.before.before) (tc r.before.before.before.before.before) (count r.before.before.before.before.before) (bytes r.before.before.before.before.before))) 3
 unfolding test_rest
 left r =
     let a = r.args in

@@ -4,9 +4,10 @@ use Rattle.table.specs.declared.calls.Call.TheVariants.{Unit}
 use Rattle.state.specs.declared.kept.Stage.TheVariants.{Gathering}
 use Rattle.state.proofs.RangeStage.{RangeThenStage, range_then_stage}
 use Rattle.gathering.proofs.units.barred.Goals as goal
+use Rattle.gathering.proofs.units.barred.Goals.{Start}
 
 -- range and stage of a call of a unit
-order : (s : goal.Start) → RangeThenStage (Unit s.args.unit s.args.act) [] Gathering s.args.stage 0
+order : (s : Start) → RangeThenStage (Unit s.args.unit s.args.act) [] Gathering s.args.stage 0
 order s = range_then_stage
 
 pub returns-then-number-ne0 : goal.returns-then-number-ne0

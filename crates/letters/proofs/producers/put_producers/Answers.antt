@@ -13,8 +13,9 @@ use Rattle.text.proofs.Joining.{puts_joined_none, puts_joined}
 use Rattle.letters.specs.Letters.{owns, producer_line, producer_line_at, producer_lines}
 use Rattle.letters.proofs.Owners.{balance_at}
 use Rattle.letters.proofs.producers.put_producers.Goals as goal
+use Rattle.letters.proofs.producers.put_producers.Goals.{Start}
 
-owner_count : (c : goal.Start) → length c.args.owners ≡ units
+owner_count : (c : Start) → length c.args.owners ≡ units
 owner_count c = search rules
 
 pub loop-i-init : goal.loop-i-init

@@ -4,4 +4,4 @@
 use Rattle.ranges.proofs.unused.zero_unless.Goals as goal
 
 pub returns : goal.returns
-returns c = simp c.if-used.left
+returns c = simp c.if-used.false

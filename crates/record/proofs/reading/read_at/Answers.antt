@@ -12,6 +12,7 @@ use Rattle.table.specs.declared.forms.Mark.{Mark}
 use Rattle.record.proofs.Reader.{at_end, at_one, at_two}
 use Rattle.record.proofs.Shows.{Named, mark_found}
 use Rattle.record.proofs.reading.read_at.Goals as goal
+use Rattle.record.proofs.reading.read_at.Goals.{After-mark_at}
 
 pub returns-then-journal-at : goal.returns-then-journal-at
 returns-then-journal-at c =
@@ -29,7 +30,7 @@ overflow_cast-number_at c =
     omega (arith, c.number_at.ensures, number_at_below 2 a.journal.now a.at (λ k. omega (arith, c.type_inv.journal k)))
 
 -- the mark that was found names the record, with its sizes
-named : (w : goal.After-mark_at) {m : Mark} {size width : ℕ} → w.mark_at.result ≡ One m size width → Named w.number_at.result m size width
+named : (w : After-mark_at) {m : Mark} {size width : ℕ} → w.mark_at.result ≡ One m size width → Named w.number_at.result m size width
 named w {m} {size} {width} e =
     mark_found w.number_at.result marks m size width (sym w.mark_at.ensures ∙ e)
 

@@ -13,6 +13,7 @@ use Rattle.table.specs.declared.forms.Mark.{Mark}
 use Rattle.table.proofs.Table.{lawful, narrow_reading, readings_none, count_within, readings-read}
 use Rattle.record.proofs.Reader.{cut_fields, fields_call, cut-readings, whole-record, fields_alone}
 use Rattle.record.proofs.reading.read_marked.Goals as goal
+use Rattle.record.proofs.reading.read_marked.Goals.{After-call_of-call, After-readings_at-more, Else-width-eq0, Start}
 
 -- where the record stands, and its mark
 abbrev journal : goal.Start → List ℕ
@@ -29,7 +30,7 @@ returns-then-left-size c =
     cut_fields (journal w) (place w) (mark w) c.args.size c.requires.1 c.if-left-size.true
 
 -- a record has two bytes for its mark
-marked : (w : goal.Start) → 2 ≤ w.args.size
+marked : (w : Start) → 2 ≤ w.args.size
 marked w = omega (arith, w.requires.1, (lawful (mark w)).size)
 
 pub slice_bounds-call_of-count : goal.slice_bounds-call_of-count
@@ -47,7 +48,7 @@ start d = d.before.before.before.before
 abbrev behind : goal.Start → List ℕ
 behind w = drop (place w + 2) (journal w)
 
-call-read : (d : goal.After-call_of-call) → d.call_of-call.result ≡ call_of (mark (start d)) (decode (form_of (mark (start d))).widths (behind (start d)))
+call-read : (d : After-call_of-call) → d.call_of-call.result ≡ call_of (mark (start d)) (decode (form_of (mark (start d))).widths (behind (start d)))
 call-read d =
     let w = start d in
     fields_call (journal w) (place w) (mark w) w.args.size w.pre.1 d.if-left-size.false d.call_of-call.result w.pre.0 d.call_of-call.ensures
@@ -61,7 +62,7 @@ returns-then-width-eq0 c =
     (omega arith)
 
 -- a record that has readings
-has_readings : (c : goal.Else-width-eq0) → (form_of (mark (start c.before))).reading_width ≡ 0 → ⊥
+has_readings : (c : Else-width-eq0) → (form_of (mark (start c.before))).reading_width ≡ 0 → ⊥
 has_readings c z = c.if-width-eq0.false ((start c.before).requires.2 ∙ z)
 
 pub readings_at-more-requires : goal.readings_at-more-requires
@@ -70,7 +71,7 @@ readings_at-more-requires c =
     (omega (arith, w.pre.2, narrow_reading (mark w)), omega (arith, count_within (mark w) (has_readings c), w.pre.1, c.if-left-size.false))
 
 -- the bytes of the readings that are found are those of the call
-readings_found : (r : goal.After-readings_at-more) → r.readings_at-more.result ≡ readings_size r.call_of-call.result
+readings_found : (r : After-readings_at-more) → r.readings_at-more.result ≡ readings_size r.call_of-call.result
 readings_found r =
     let w = start d in
     let p : place w + 6 ≡ place w + 2 + count_place = omega arith in

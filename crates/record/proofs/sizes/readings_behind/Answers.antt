@@ -6,9 +6,10 @@ use native.Mathlib.Nat.{mul-le-mul}
 use native.Mathlib.Omega.{arith}
 use Rattle.table.specs.Records.{widest}
 use Rattle.record.proofs.sizes.readings_behind.Goals as goal
+use Rattle.record.proofs.sizes.readings_behind.Goals.{After-wide}
 
 -- the product is small
-small : (w : goal.After-wide) → w.args.width * w.wide.result < 2 ^ 34
+small : (w : After-wide) → w.args.width * w.wide.result < 2 ^ 34
 small w =
     let h : w.wide.result ≤ 2 ^ 32 - 1 = omega (arith, w.wide.ensures) in
     let k : w.args.width ≤ widest = w.requires in

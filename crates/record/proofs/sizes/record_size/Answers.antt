@@ -9,13 +9,14 @@ use Rattle.table.specs.Ranges.{fields_of}
 use Rattle.table.specs.declared.forms.Fields.{Fields}
 use Rattle.table.proofs.Table.{lawful, narrow_reading, readings_by_fields}
 use Rattle.record.proofs.sizes.record_size.Goals as goal
+use Rattle.record.proofs.sizes.record_size.Goals.{After-fields_of-fields}
 
 -- the form is that of the call's record
-size_of : (w : goal.After-fields_of-fields) → w.fields_of-fields.result.form.size ≡ fields_size w.args.call
+size_of : (w : After-fields_of-fields) → w.fields_of-fields.result.form.size ≡ fields_size w.args.call
 unfolding fields_of
 size_of w = ap (λ (f : Fields). f.form.size) w.fields_of-fields.ensures
 
-narrow : (w : goal.After-fields_of-fields) → w.fields_of-fields.result.form.reading_width ≤ widest
+narrow : (w : After-fields_of-fields) → w.fields_of-fields.result.form.reading_width ≤ widest
 unfolding fields_of
 narrow w =
     omega (arith, ap (λ (f : Fields). f.form.reading_width) w.fields_of-fields.ensures, narrow_reading (parts_of w.args.call).mark)

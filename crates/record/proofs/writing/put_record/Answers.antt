@@ -12,8 +12,9 @@ use Rattle.table.proofs.Laws.{in_range}
 use Rattle.table.proofs.Table.{lawful, of_parts, narrow_reading, readings_by_fields}
 use Rattle.record.proofs.Writer.{written_as, pieces}
 use Rattle.record.proofs.writing.put_record.Goals as goal
+use Rattle.record.proofs.writing.put_record.Goals.{After-fields_of-fields, After-readings_behind-more}
 
-narrow : (w : goal.After-fields_of-fields) → w.fields_of-fields.result.form.reading_width ≤ widest
+narrow : (w : After-fields_of-fields) → w.fields_of-fields.result.form.reading_width ≤ widest
 unfolding fields_of
 narrow w =
     omega (arith, ap (λ (f : Fields). f.form.reading_width) w.fields_of-fields.ensures, narrow_reading (parts_of w.args.call).mark)
@@ -22,7 +23,7 @@ pub readings_behind-more-requires : goal.readings_behind-more-requires
 readings_behind-more-requires c = narrow c.before.before
 
 -- the bytes of the readings are those of the call
-readings-size : (w : goal.After-readings_behind-more) → w.readings_behind-more.result ≡ readings_size w.args.call
+readings-size : (w : After-readings_behind-more) → w.readings_behind-more.result ≡ readings_size w.args.call
 readings-size w =
     let f = w.fields_of-fields in
     w.readings_behind-more.ensures.0

@@ -6,8 +6,9 @@ use native.Mathlib.Omega.{arith}
 use lib.ListN.{length}
 use Rattle.share.proofs.Accepted.{Accepted, accepted, ready, made}
 use Rattle.share.proofs.parts.share_out.Goals as goal
+use Rattle.share.proofs.parts.share_out.Goals.{Start}
 
-shown : (c : goal.Start) → Accepted c.args.total c.args.weights.now (length c.args.amounts.now)
+shown : (c : Start) → Accepted c.args.total c.args.weights.now (length c.args.amounts.now)
 shown c = accepted c.args.total c.args.weights.now (length c.args.amounts.now) c.requires.amounts_value
 
 pub sum_of-whole-requires : goal.sum_of-whole-requires

@@ -12,8 +12,9 @@ use Rattle.share.specs.Division.{whole_parts, remainders}
 use Rattle.share.proofs.Lists.{fill_next}
 use Rattle.share.proofs.Quotients.{length-parts, length-remainders, part_at, remainder_at_lem, parts_at_most, left_next}
 use Rattle.share.proofs.parts.whole_parts.Goals as goal
+use Rattle.share.proofs.parts.whole_parts.Goals.{After-shared_slice_known-1}
 
-at_most : (c : goal.After-shared_slice_known-1) → sum (whole_parts c.args.total c.args.whole c.args.weights.now) ≤ c.args.total
+at_most : (c : After-shared_slice_known-1) → sum (whole_parts c.args.total c.args.whole c.args.weights.now) ≤ c.args.total
 at_most c =
     rw c.requires.whole_nonzero.0.1 (parts_at_most c.args.total c.args.weights.now (omega arith))
 

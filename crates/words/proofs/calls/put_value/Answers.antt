@@ -5,8 +5,9 @@ use borrow.Author.Rules.{rules}
 use Rattle.text.proofs.Putting.{puts_then, puts_within, decimal-short_64}
 use Rattle.words.specs.Calls.{value_text}
 use Rattle.words.proofs.calls.put_value.Goals as goal
+use Rattle.words.proofs.calls.put_value.Goals.{Start}
 
-fits : (c : goal.Start) → c.args.value < 2 ^ 64
+fits : (c : Start) → c.args.value < 2 ^ 64
 fits c = search rules
 
 pub put_decimal-requires : goal.put_decimal-requires

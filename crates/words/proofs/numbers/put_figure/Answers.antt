@@ -5,8 +5,9 @@ use borrow.Author.Rules.{rules}
 use Rattle.text.proofs.Putting.{decimal-short_64}
 use Rattle.words.proofs.Pieces.{puts_figure}
 use Rattle.words.proofs.numbers.put_figure.Goals as goal
+use Rattle.words.proofs.numbers.put_figure.Goals.{Start}
 
-fits : (c : goal.Start) → c.args.x < 2 ^ 64
+fits : (c : Start) → c.args.x < 2 ^ 64
 fits c = search rules
 
 pub put_decimal-requires : goal.put_decimal-requires

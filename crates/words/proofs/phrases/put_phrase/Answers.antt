@@ -7,8 +7,9 @@ use lib.Seq.{length-take-le}
 use Rattle.text.proofs.Putting.{puts_within}
 use Rattle.words.specs.Phrases.{phrase_most}
 use Rattle.words.proofs.phrases.put_phrase.Goals as goal
+use Rattle.words.proofs.phrases.put_phrase.Goals.{Start}
 
-whole : (c : goal.Start) → length c.args.phrase.bytes ≡ phrase_most
+whole : (c : Start) → length c.args.phrase.bytes ≡ phrase_most
 whole c = search rules
 
 pub slice_bounds-bytes-end : goal.slice_bounds-bytes-end
