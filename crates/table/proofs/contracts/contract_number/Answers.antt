@@ -9,7 +9,7 @@ use Rattle.table.proofs.contracts.contract_number.Goals as goal
 
 pub returns-then-fields : goal.returns-then-fields
 unfolding rest_in_range
-returns-then-fields c = c.args in number_in (Contract a.producer a.consumer a.act) [] c.contract_fields-fields.ensures c.if-fields.true refl
+returns-then-fields c = let a = c.args in number_in (Contract a.producer a.consumer a.act) [] c.contract_fields-fields.ensures c.if-fields.true refl
 
 pub returns : goal.returns
-returns c = c.args in number_out (Contract a.producer a.consumer a.act) [] c.contract_fields-fields.ensures c.if-fields.false
+returns c = let a = c.args in number_out (Contract a.producer a.consumer a.act) [] c.contract_fields-fields.ensures c.if-fields.false
