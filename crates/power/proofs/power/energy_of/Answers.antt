@@ -1,10 +1,6 @@
-use mathlib.Core.Path.{◌≡◌, ap}
-use Prim.Native.Nat.{◌+◌, ◌-◌, ◌≤◌}
-use lib.ListN.{drop}
-use Rattle.basis.specs.Sums.{sum}
+use mathlib.Core.Path.{ap}
 use Rattle.power.specs.Quantity.{kwh}
 use Rattle.quantities.specs.Limits.{greatest_reading}
-use Rattle.power.specs.Ranges.{readings_of}
 use Rattle.power.proofs.Readings.{sum_from, sum_end, energy_at_most}
 use native.Mathlib.Omega.{arith}
 use Rattle.power.proofs.power.energy_of.Goals as goal

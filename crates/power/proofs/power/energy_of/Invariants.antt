@@ -1,5 +1,5 @@
 -- `power::power::energy_of` meets its contract. The invariant: the energy so far and the readings still to come make the whole. Assumes nothing.
-use mathlib.Core.Path.{◌≡◌, ap}
+use mathlib.Core.Path.{◌≡◌}
 use Prim.Native.Nat.{◌+◌, ◌-◌, ◌≤◌}
 use lib.ListN.{drop}
 use Rattle.basis.specs.Sums.{sum}

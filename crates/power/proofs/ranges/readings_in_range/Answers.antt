@@ -1,15 +1,13 @@
 use mathlib.Core.Path.{◌≡◌, refl, sym, ap, ◌∙◌}
 use mathlib.Core.Bool.{Bool, true, false}
-use Prim.Native.Nat.{ℕ, ◌+◌, ◌-◌, ◌≤◌}
+use Prim.Native.Nat.{ℕ, ◌+◌, ◌≤◌}
 use native.Mathlib.Omega.{arith}
 use borrow.Author.Tests.{ne_eqb}
 use lib.Dec.{leb, eqb}
-use lib.ListN.{drop}
 use Rattle.basis.specs.Choice.{pick}
 use Rattle.basis.specs.Sums.{all_at_most}
 use Rattle.basis.proofs.Choice.{pick_same, alone}
 use Rattle.quantities.specs.Limits.{greatest_reading}
-use Rattle.power.specs.Ranges.{readings_of}
 use Rattle.power.proofs.Readings.{readings_from, readings_end}
 use Rattle.power.proofs.ranges.readings_in_range.Goals as goal
 

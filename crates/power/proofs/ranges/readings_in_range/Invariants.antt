@@ -1,9 +1,9 @@
 -- `power::ranges::readings_in_range` meets its contract. The invariant: if none was above the greatest yet, the readings still to come decide.
 -- Assumes nothing.
-use mathlib.Core.Path.{◌≡◌, refl, sym, ap, ◌∙◌}
-use mathlib.Core.Bool.{Bool, true, false}
-use Prim.Native.Nat.{ℕ, ◌+◌, ◌-◌, ◌≤◌}
-use lib.Dec.{leb, eqb}
+use mathlib.Core.Path.{◌≡◌}
+use mathlib.Core.Bool.{false}
+use Prim.Native.Nat.{◌-◌, ◌≤◌}
+use lib.Dec.{eqb}
 use lib.ListN.{drop}
 use Rattle.basis.specs.Choice.{pick}
 use Rattle.basis.specs.Sums.{all_at_most}
