@@ -1,8 +1,8 @@
 -- `text::put_amounts` meets its contract. The invariant: the first i amounts stand in the buffer. Assumes nothing.
-use mathlib.Core.Path.{◌≡◌, refl, sym, ap, ◌∙◌}
-use Prim.Native.Nat.{ℕ, ◌+◌, ◌-◌, ◌*◌, ◌≤◌, ◌<◌}
+use mathlib.Core.Path.{◌≡◌}
+use Prim.Native.Nat.{◌-◌, ◌*◌, ◌≤◌}
 use lib.ListN.{length, take}
-use Rattle.text.specs.Text.{Puts, spaced_most, line_amounts, spaced}
+use Rattle.text.specs.Text.{Puts, spaced_most, spaced}
 use Rattle.text.proofs.put_amounts.Given as goal
 
 abbrev pub invariant-loop-i : goal.invariant-loop-i

@@ -1,5 +1,4 @@
 -- `text::put_line` meets its contract. Assumes nothing.
-use Prim.Native.Nat.{ℕ}
 use native.Mathlib.Omega.{arith}
 use lib.ListN.{take}
 use Rattle.text.proofs.Putting.{puts_line}

@@ -1,7 +1,7 @@
 -- `text::put_text` meets its contract. The invariant: with what is still to be written over it, out is what it is to be. Assumes nothing.
-use mathlib.Core.Path.{◌≡◌, refl, sym, ap, ◌∙◌}
-use Prim.Native.Nat.{ℕ, suc, ◌+◌, ◌-◌, ◌≤◌}
-use lib.ListN.{drop_of_length-le, length, get_or, drop, set, length-set}
+use mathlib.Core.Path.{◌≡◌}
+use Prim.Native.Nat.{◌+◌, ◌-◌, ◌≤◌}
+use lib.ListN.{length, drop}
 use Rattle.basis.specs.Numbers.{written}
 use Rattle.text.proofs.put_text.Given as goal
 

@@ -14,5 +14,5 @@ returns c =
     let a = c.args in
     let p = c.put_amount-end in
     let text = amount_of a.amount in
-    let cut : take (p.result - (p.result - a.width)) (drop (p.result - a.width) p.new.0) ≡ column a.width text = column-cut a.width amount_most p.result text p.new.0 (omega arith) p.ensures.next p.ensures.bytes in
+    let cut : take (p.result - (p.result - a.width)) (drop (p.result - a.width) p.new.out) ≡ column a.width text = column-cut a.width amount_most p.result text p.new.out (omega arith) p.ensures.next p.ensures.bytes in
     puts_within (omega (arith, ap length cut, length-column a.width text)) (puts_as cut c.put_text.ensures)
