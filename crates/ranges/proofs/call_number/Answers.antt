@@ -1,6 +1,6 @@
 -- `ranges::call_number` meets its contract: by the answer of its fields and of the other test.
 -- Assumes nothing.
-use mathlib.Core.Path.{refl}
+use mathlib.Core.Path.{refl, sym, ◌∙◌}
 use Rattle.basis.proofs.Answers.{answered_yes, answered_no}
 use Rattle.table.proofs.Laws.{number_in, number_out, number_rest}
 use Rattle.ranges.proofs.call_number.Goals as goal
@@ -13,9 +13,9 @@ returns-then-not-fields c =
 pub returns-then-not-rest_in_range : goal.returns-then-not-rest_in_range
 returns-then-not-rest_in_range c =
     let a = c.args in
-    number_rest a.call a.readings.now c.fields_of-fields.ensures (answered_yes refl c.if-not-fields.false) (answered_no c.rest_in_range.ensures c.if-not-rest_in_range.true)
+    number_rest a.call a.readings.now c.fields_of-fields.ensures (answered_yes refl c.if-not-fields.false) (sym c.rest_in_range.ensures ∙ c.if-not-rest_in_range.true)
 
 pub returns : goal.returns
 returns c =
     let a = c.args in
-    number_in a.call a.readings.now c.fields_of-fields.ensures (answered_yes refl c.if-not-fields.false) (answered_yes c.rest_in_range.ensures c.if-not-rest_in_range.false)
+    number_in a.call a.readings.now c.fields_of-fields.ensures (answered_yes refl c.if-not-fields.false) (sym c.rest_in_range.ensures ∙ c.if-not-rest_in_range.false)
