@@ -34,7 +34,7 @@ real_demand x = declared_real x.declaration x.reading
 unfoldable pub reals_of : List Consumer → List ℕ
 reals_of xs = map real_demand xs
 
--- DFA = Dreal-as-DMP / ΣD
+-- DFA = Dreal·DMP / ΣD
 abbrev pub adjusted_by : ℕ → ℕ → Reading → Declaration → ℕ
 adjusted_by dmp total reading Undeclared = 0
 adjusted_by dmp total reading (Declared f) = real_of reading * dmp / total
