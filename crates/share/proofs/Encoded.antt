@@ -1,13 +1,12 @@
 -- A division over buffers is the division of the numbers that they hold.
-use mathlib.Core.Path.{◌≡◌, refl, sym, ap, ◌∙◌}
-use mathlib.Core.List.{List, [], ◌++◌, append-nil}
-use Prim.Native.Nat.{ℕ, ◌+◌, ◌*◌, ◌/◌, ◌%◌, ◌≤◌, ◌<◌}
+use mathlib.Core.Path.{◌≡◌, sym, ap, ◌∙◌}
+use mathlib.Core.List.{List, append-nil}
+use Prim.Native.Nat.{ℕ, ◌*◌, ◌/◌, ◌%◌, ◌≤◌, ◌<◌}
 use native.Mathlib.Nat.{zero-add}
 use native.Mathlib.Omega.{arith}
-use borrow.Author.Tests.{eq-eqb, ne_eqb, lt-ltb, le-ltb}
+use borrow.Author.Tests.{eq-eqb, ne_eqb, lt-ltb}
 use lib.Dec.{ltb}
-use lib.ListN.{length, drop, drop_of_length-le}
-use Rattle.basis.specs.Choice.{pick}
+use lib.ListN.{length, drop_of_length-le}
 use Rattle.basis.specs.Numbers.{numbers_of, all_bytes_of, written}
 use Rattle.basis.proofs.Choice.{pick_same}
 use Rattle.basis.proofs.Tables.{length-tab}

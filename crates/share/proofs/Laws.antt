@@ -1,17 +1,16 @@
 -- What a division promises, over the definition alone: cited by other crates.
-use mathlib.Core.Path.{◌≡◌, refl, sym, ap, ◌∙◌}
-use mathlib.Core.Bool.{Bool, true, false}
-use mathlib.Core.List.{List, [], ◌∷◌}
-use mathlib.Core.Logic.{◌⊎◌, ⊎_elim, inl, inr}
-use Prim.Native.Nat.{ℕ, zero, suc, ◌+◌, ◌-◌, ◌*◌, ◌/◌, ◌%◌, ◌≤◌, ◌<◌, zero-le}
+use mathlib.Core.Path.{◌≡◌, sym, ap, ◌∙◌}
+use mathlib.Core.List.{List}
+use mathlib.Core.Logic.{◌⊎◌, ⊎_elim}
+use Prim.Native.Nat.{ℕ, ◌+◌, ◌-◌, ◌*◌, ◌/◌, ◌%◌, ◌<◌}
 use native.Mathlib.Nat.{add-mul, div-add-mod', mul-zero, zero-mod, sub-add_cancel}
 use native.Mathlib.Omega.{arith}
 use lib.ListN.{length, get_or}
 use Rattle.basis.specs.Sums.{sum}
-use Rattle.share.specs.Division.{whole_parts, remainders, give, shares}
+use Rattle.share.specs.Division.{whole_parts, remainders, shares}
 use Rattle.share.specs.Promises.{SharesDivide}
 use Rattle.share.proofs.Quotients.{length-parts, length-remainders, part_at, remainder_at_lem, parts_at_most, left_and_rest, remainder_below}
-use Rattle.share.proofs.Units.{Covered, Before, length-give, sum-give, some_element, given, given_before}
+use Rattle.share.proofs.Units.{Covered, length-give, sum-give, some_element, given, given_before}
 
 -- one amount for each weight
 pub length-shares : (T : ℕ) (ws : List ℕ) → length (shares T ws) ≡ length ws

@@ -1,14 +1,13 @@
 -- The whole parts and what they leave.
 use mathlib.Core.Path.{◌≡◌, refl, sym, ap, ◌∙◌}
 use mathlib.Core.List.{List, [], ◌∷◌, map}
-use Prim.Native.Nat.{ℕ, zero, suc, ◌+◌, ◌-◌, ◌*◌, ◌/◌, ◌%◌, ◌≤◌, ◌<◌, zero-le}
-use native.Mathlib.Nat.{mul-add, add-mul, mul-zero, zero-mul, div-add-mod', mod-lt, le_of_mul-le-mul_right, mul-le-mul_left, mul_comm, zero-mod, zero-div, sub-add_cancel}
+use Prim.Native.Nat.{ℕ, zero, suc, ◌+◌, ◌-◌, ◌*◌, ◌/◌, ◌%◌, ◌≤◌, ◌<◌}
+use native.Mathlib.Nat.{mul-add, add-mul, mul-zero, zero-mul, div-add-mod', mod-lt, le_of_mul-le-mul_right, zero-mod, zero-div, sub-add_cancel}
 use native.Mathlib.Omega.{arith}
 use lib.ListN.{length, get_or, take, length-map}
 use Rattle.basis.specs.Sums.{sum}
 use Rattle.basis.proofs.Sums.{sum-parts, sum_passed}
 use Rattle.share.specs.Division.{whole_parts, remainders}
-use Rattle.share.proofs.Lists.{get_d_map}
 
 pub length-parts : (T W : ℕ) (ws : List ℕ) → length (whole_parts T W ws) ≡ length ws
 unfolding whole_parts

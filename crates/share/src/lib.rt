@@ -7,6 +7,7 @@ mod parts;
 ghost use Rattle.std.specs.Prelude.{◌≡◌, length};
 ghost use Rattle.share.specs.Division.{Divides, division_number};
 
+pub use buffers::share_divide;
 use quantities::{GREATEST_TOTAL, MOST_WEIGHTS};
 
 // The number that a division into `room` amounts meets: 3, 13, 15 or 0.

@@ -1,23 +1,20 @@
 -- `share::divide` meets its contract: a refusal changes nothing, and an acceptance shares out over the front of the amounts.
 -- Assumes nothing.
-use mathlib.Core.Path.{◌≡◌, refl, sym, ap, ◌∙◌}
+use mathlib.Core.Path.{◌≡◌, sym, ap, ◌∙◌}
 use mathlib.Core.List.{List, ◌++◌}
-use Prim.Native.Nat.{ℕ, ◌+◌, ◌≤◌}
+use Prim.Native.Nat.{ℕ}
 use native.Mathlib.Nat.{zero-add}
 use native.Mathlib.Omega.{arith}
 use borrow.Author.Tests.{eq-eqb, ne_eqb}
-use lib.ListN.{length, take, drop}
+use lib.ListN.{length, drop}
 use lib.Seq.{length-take-le}
-use Rattle.share.specs.Division.{shares, divided}
+use Rattle.share.specs.Division.{divided, division_number}
 use Rattle.share.proofs.Accepted.{Accepted, accepted, enough}
 use Rattle.share.proofs.Laws.{length-shares}
 use Rattle.share.proofs.divide.Goals as goal
-use Rattle.share.proofs.divide.Goals.{Else-number-ne0}
 
-shown : (c : Else-number-ne0) → Accepted c.args.total c.args.weights.now (length c.args.amounts.now)
-shown c =
-    let a = c.args in
-    accepted a.total a.weights.now (length a.amounts.now) (sym c.division_number-number.ensures ∙ c.if-number-ne0.false)
+shown : (T : ℕ) (ws : List ℕ) (room number : ℕ) → number ≡ division_number T ws room → number ≡ 0 → Accepted T ws room
+shown T ws room number e z = accepted T ws room (sym e ∙ z)
 
 pub returns-then-number-ne0 : goal.returns-then-number-ne0
 unfolding divided
@@ -26,29 +23,29 @@ returns-then-number-ne0 c =
     record { answer = e; amounts = rw (← e, ne_eqb c.division_number-number.result 0 c.if-number-ne0.true) }
 
 pub slice_bounds-share_out-end : goal.slice_bounds-share_out-end
-slice_bounds-share_out-end c = (shown c).ranges
+slice_bounds-share_out-end c = (shown c.args.total c.args.weights.now (length c.args.amounts.now) c.division_number-number.result c.division_number-number.ensures c.if-number-ne0.false).fits
 
 pub slice_bounds-share_out-end-2 : goal.slice_bounds-share_out-end-2
-slice_bounds-share_out-end-2 c = sym (length-take-le _ _ (shown c.before).fits)
+slice_bounds-share_out-end-2 c = sym (length-take-le _ _ (shown c.args.total c.args.weights.now (length c.args.amounts.now) c.division_number-number.result c.division_number-number.ensures c.if-number-ne0.false).fits)
 
 pub slice_bounds-rest-end : goal.slice_bounds-rest-end
-slice_bounds-rest-end c = (shown c.before).most
+slice_bounds-rest-end c = (shown c.args.total c.args.weights.now (length c.args.amounts.now) c.division_number-number.result c.division_number-number.ensures c.if-number-ne0.false).most
 
 pub slice_bounds-share_out-end-3 : goal.slice_bounds-share_out-end-3
-slice_bounds-share_out-end-3 c = sym (length-take-le _ _ (shown c.before.before).most)
+slice_bounds-share_out-end-3 c = sym (length-take-le _ _ (shown c.args.total c.args.weights.now (length c.args.amounts.now) c.division_number-number.result c.division_number-number.ensures c.if-number-ne0.false).most)
 
 pub share_out-requires : goal.share_out-requires
 share_out-requires c =
     let a = c.args in
-    let h = shown c.before.before in
+    let h = (shown c.args.total c.args.weights.now (length c.args.amounts.now) c.division_number-number.result c.division_number-number.ensures c.if-number-ne0.false) in
     let n = length-take-le (length a.weights.now) a.amounts.now h.fits in
-    (enough a.total a.weights.now (length a.amounts.now) _ h (omega (arith, n)), (n, length-take-le _ _ h.most))
+    record { amounts_value = enough a.total a.weights.now (length a.amounts.now) _ h (omega (arith, n)); amounts_len = (n, length-take-le _ _ h.most) }
 
 pub returns : goal.returns
 unfolding divided
 returns c =
     let a = c.args in
-    let h = shown c.before.before.before.before.before.before in
+    let h = (shown c.args.total c.args.weights.now (length c.args.amounts.now) c.division_number-number.result c.division_number-number.ensures c.if-number-ne0.false) in
     let e = c.share_out.ensures in
     let n = length-shares a.total a.weights.now in
     record {

@@ -1,8 +1,8 @@
 -- `share::buffers::read_weights` meets its contract. The invariant: the weights are right as far as i.
 -- Assumes nothing.
-use mathlib.Core.Path.{◌≡◌, refl, sym, ap, ◌∙◌}
-use Prim.Native.Nat.{ℕ, ◌+◌, ◌-◌, ◌*◌, ◌≤◌, ◌<◌}
-use lib.ListN.{length, take, length-set}
+use mathlib.Core.Path.{◌≡◌}
+use Prim.Native.Nat.{◌-◌, ◌*◌, ◌≤◌}
+use lib.ListN.{length, take}
 use Rattle.basis.specs.Tables.{tab}
 use Rattle.basis.specs.Numbers.{number_at}
 use Rattle.share.proofs.buffers.read_weights.Given as goal

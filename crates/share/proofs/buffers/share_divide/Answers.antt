@@ -1,9 +1,8 @@
 -- `share::buffers::share_divide` meets its contract: a length that is out of range is refused, and else the buffer is divided.
 -- Assumes nothing.
-use mathlib.Core.Path.{◌≡◌, refl, sym, ◌∙◌}
-use Prim.Native.Nat.{ℕ, ◌*◌, ◌/◌, ◌%◌, ◌≤◌}
+use mathlib.Core.Path.{refl, sym}
 use native.Mathlib.Omega.{arith}
-use lib.ListN.{length, length-take}
+use lib.ListN.{length-take}
 use lib.Seq.{length-take-le}
 use Rattle.share.proofs.Encoded.{odd_refused, many_refused}
 use Rattle.share.proofs.buffers.share_divide.Goals as goal

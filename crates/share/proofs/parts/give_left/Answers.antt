@@ -1,10 +1,9 @@
 use mathlib.Core.Path.{◌≡◌, refl, sym, ap, ◌∙◌}
-use Prim.Native.Nat.{ℕ, ◌+◌, ◌-◌, ◌≤◌, ◌<◌}
+use Prim.Native.Nat.{◌+◌, ◌-◌}
 use native.Mathlib.Omega.{arith}
-use lib.ListN.{length, get_or, set, length-set}
-use Rattle.basis.specs.Sums.{sum}
+use lib.ListN.{get_or, set, length-set}
 use Rattle.basis.proofs.Sums.{sum-set, at_most_sum}
-use Rattle.share.specs.Division.{largest, give}
+use Rattle.share.specs.Division.{give}
 use Rattle.share.proofs.Units.{give-next, give_none}
 use Rattle.share.proofs.parts.give_left.Goals as goal
 

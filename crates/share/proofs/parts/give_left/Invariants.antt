@@ -1,10 +1,10 @@
 -- `share::parts::give_left` meets its contract. The invariant: giving the units that are left makes the amounts that are to be.
 -- Assumes nothing.
-use mathlib.Core.Path.{◌≡◌, refl, sym, ap, ◌∙◌}
-use Prim.Native.Nat.{ℕ, ◌+◌, ◌-◌, ◌≤◌, ◌<◌}
-use lib.ListN.{length, get_or, set, length-set}
+use mathlib.Core.Path.{◌≡◌}
+use Prim.Native.Nat.{◌+◌}
+use lib.ListN.{length}
 use Rattle.basis.specs.Sums.{sum}
-use Rattle.share.specs.Division.{largest, give}
+use Rattle.share.specs.Division.{give}
 use Rattle.share.proofs.parts.give_left.Given as goal
 
 abbrev pub invariant-loop-n : goal.invariant-loop-n

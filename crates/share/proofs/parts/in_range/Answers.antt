@@ -1,9 +1,7 @@
 use mathlib.Core.Path.{sym}
-use Prim.Native.Nat.{ℕ, ◌-◌, ◌≤◌, ◌<◌}
 use native.Mathlib.Omega.{arith}
 use borrow.Author.Count.{below_more}
 use borrow.Author.Rules.{rules}
-use lib.ListN.{length, get_or}
 use Rattle.basis.proofs.Sums.{at_most_all, not_all_at_most}
 use Rattle.quantities.specs.Limits.{greatest_weight}
 use Rattle.share.proofs.parts.in_range.Goals as goal

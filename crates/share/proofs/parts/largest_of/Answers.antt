@@ -1,11 +1,9 @@
 use mathlib.Core.Path.{◌≡◌, refl}
-use mathlib.Core.Logic.{⊎_elim}
-use Prim.Native.Nat.{ℕ, ◌+◌, ◌-◌, ◌≤◌, ◌<◌}
 use native.Mathlib.Omega.{arith}
 use borrow.Author.Count.{below_more}
-use lib.ListN.{length, get_or, get_or-eq_default}
-use Rattle.share.proofs.Largest.{Largest, largest_only, largest_among}
+use Rattle.share.proofs.Largest.{largest_only, largest_among}
 use Rattle.share.proofs.parts.largest_of.Goals as goal
+use Rattle.share.proofs.parts.largest_of.Goals.{then-top-x, else-top-x}
 
 pub loop-i-init : goal.loop-i-init
 loop-i-init c =
@@ -15,22 +13,22 @@ pub loop-i-preserved : goal.loop-i-preserved
 loop-i-preserved c =
     let r = c.args.rest.now in
     let l = c.loop-i in
-    ⊎_elim
-    (λ w. (
-      omega arith,
-      omega (arith, w),
-      rw (w.1, w.2) refl,
-      below_more _ _ (λ k p. omega (arith, w, l.invariant.3 k p)) (omega (arith, w)),
-      λ k p. omega (arith, w, l.invariant.3 k (omega (arith, w))),
-    ))
-    (λ w. (
-      omega arith,
-      omega (arith, w),
-      rw (w.1, w.2) l.invariant.2,
-      below_more _ _ (λ k p. omega (arith, w, l.invariant.3 k p)) (omega (arith, w)),
-      λ k p. omega (arith, w, l.invariant.4 k (omega (arith, w))),
-    ))
-    c.if-top-x.branch
+    elim c.if-top-x.branch [
+      | then-top-x w ↦ (
+        omega arith,
+        omega arith,
+        rw (w.place-is, w.top-is) refl,
+        below_more _ _ (λ k p. omega (arith, l.invariant.3 k p)) (omega arith),
+        λ k p. omega (arith, l.invariant.3 k (omega arith)),
+      )
+      | else-top-x w ↦ (
+        omega arith,
+        omega arith,
+        rw (w.place-is, w.top-is) l.invariant.2,
+        below_more _ _ (λ k p. omega (arith, l.invariant.3 k p)) (omega arith),
+        λ k p. omega (arith, l.invariant.4 k (omega arith)),
+      )
+    ]
 
 pub returns : goal.returns
 returns c =

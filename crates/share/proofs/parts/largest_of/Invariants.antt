@@ -1,8 +1,8 @@
 -- `share::parts::largest_of` meets its contract. The invariant: the one at `place` is the first largest of those passed.
 -- Assumes nothing.
-use mathlib.Core.Path.{◌≡◌, refl}
-use Prim.Native.Nat.{ℕ, ◌+◌, ◌-◌, ◌≤◌, ◌<◌}
-use lib.ListN.{length, get_or, get_or-eq_default}
+use mathlib.Core.Path.{◌≡◌}
+use Prim.Native.Nat.{ℕ, ◌-◌, ◌≤◌, ◌<◌}
+use lib.ListN.{length, get_or}
 use Rattle.share.proofs.parts.largest_of.Given as goal
 
 abbrev pub invariant-loop-i : goal.invariant-loop-i

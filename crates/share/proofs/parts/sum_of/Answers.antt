@@ -1,9 +1,5 @@
-use mathlib.Core.Path.{◌≡◌}
-use Prim.Native.Nat.{◌+◌, ◌-◌, ◌≤◌}
 use native.Mathlib.Nat.{mul-le-mul_right}
 use native.Mathlib.Omega.{arith}
-use lib.ListN.{length, drop}
-use Rattle.basis.specs.Sums.{sum}
 use Rattle.basis.proofs.Sums.{sum-next, sum_done, sum_at_most, all_at_most_lem}
 use Rattle.quantities.specs.Limits.{greatest_weight}
 use Rattle.share.proofs.parts.sum_of.Goals as goal
@@ -13,7 +9,7 @@ overflow_add-s c =
     let w = c.args.weights.now in
     let i = c.loop-i.i in
     let p = c.requires in
-    omega (arith, sum-next w i (omega arith), sum_at_most greatest_weight w (all_at_most_lem greatest_weight w p.0), mul-le-mul_right greatest_weight p.1)
+    omega (arith, sum-next w i (omega arith), sum_at_most greatest_weight w (all_at_most_lem greatest_weight w p.weights_value), mul-le-mul_right greatest_weight p.weights_len_bound)
 
 pub loop-i-preserved : goal.loop-i-preserved
 loop-i-preserved c =

@@ -1,9 +1,9 @@
 -- `share::parts::whole_parts` meets its contract. The invariant: both lists are right as far as i, and what is left
 -- with the parts so far makes the total.
 -- Assumes nothing.
-use mathlib.Core.Path.{◌≡◌, refl, sym, ap, ◌∙◌}
-use Prim.Native.Nat.{ℕ, ◌+◌, ◌-◌, ◌*◌, ◌/◌, ◌%◌, ◌≤◌, ◌<◌}
-use lib.ListN.{length, get_or, take, set, length-set}
+use mathlib.Core.Path.{◌≡◌}
+use Prim.Native.Nat.{◌+◌, ◌-◌, ◌≤◌}
+use lib.ListN.{length, take}
 use Rattle.basis.specs.Sums.{sum}
 use Rattle.share.specs.Division.{whole_parts, remainders}
 use Rattle.share.proofs.parts.whole_parts.Given as goal
