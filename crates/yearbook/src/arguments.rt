@@ -1,6 +1,5 @@
 // What the program is asked for by its arguments.
-use crate::output::print;
-use libc::STDERR_FILENO;
+use crate::output::{print, say};
 
 // What is printed of a journal.
 #[derive(Clone, Copy)]
@@ -63,50 +62,54 @@ pub fn word_of(argument: &[u8]) -> Word {
 }
 
 // How the program is called, on standard error.
-pub fn usage() {
-    io::write_all(
-        STDERR_FILENO,
+pub fn usage(rt: &HostRuntime) {
+    say(
+        rt,
         b"usage: yearbook [replies | run | page] [FILE] | yearbook help\n",
     );
 }
 
 // An argument in a word's place that is none.
-pub fn unknown(argument: &[u8]) {
-    io::write_all(STDERR_FILENO, b"yearbook: ");
-    io::write_all(STDERR_FILENO, argument);
-    io::write_all(STDERR_FILENO, b": unknown word\n");
-    usage();
+pub fn unknown(rt: &HostRuntime, argument: &[u8]) {
+    say(rt, b"yearbook: ");
+    say(rt, argument);
+    say(rt, b": unknown word\n");
+    usage(rt);
 }
 
 // More arguments than a word and a file, or some behind `help`.
-pub fn too_many() {
-    io::write_all(STDERR_FILENO, b"yearbook: too many arguments\n");
-    usage();
+pub fn too_many(rt: &HostRuntime) {
+    say(rt, b"yearbook: too many arguments\n");
+    usage(rt);
 }
 
 // The words, on standard output.
-pub fn help() {
-    let _ = print(b"usage: yearbook [replies | run | page] [FILE] | yearbook help\n")
+pub fn help(rt: &HostRuntime) {
+    let _ = print(
+        rt,
+        b"usage: yearbook [replies | run | page] [FILE] | yearbook help\n",
+    ) && print(
+        rt,
+        b"Reads a journal of the firm capacity book, FILE or standard input, of at most 65536 bytes.\n",
+    ) && print(
+        rt,
+        b"  without a word  the listing: U units, P producers, D demands, S settlements, T totals, R records\n",
+    ) && print(
+        rt,
+        b"  replies         each record's place, call, number and meaning, and where the reading stopped\n",
+    ) && print(
+        rt,
+        b"  run             the counts, where and why the reading stopped, and the first refused record with its number\n",
+    ) && print(
+        rt,
+        b"  page            the printed close: a line of 36 columns for each declared consumer, 50 to a page\n",
+    ) && print(rt, b"  help            these words\n")
         && print(
-            b"Reads a journal of the firm capacity book, FILE or standard input, of at most 65536 bytes.\n",
-        )
-        && print(
-            b"  without a word  the listing: U units, P producers, D demands, S settlements, T totals, R records\n",
-        )
-        && print(
-            b"  replies         each record's place, call, number and meaning, and where the reading stopped\n",
-        )
-        && print(
-            b"  run             the counts, where and why the reading stopped, and the first refused record with its number\n",
-        )
-        && print(
-            b"  page            the printed close: a line of 36 columns for each declared consumer, 50 to a page\n",
-        )
-        && print(b"  help            these words\n")
-        && print(
+            rt,
             b"A journal holds binary records; scripts/journal of the sources makes them from lines of text.\n",
         )
         && print(
+            rt,
             b"Where the program ends by itself, standard error is empty exactly when all was read and accepted, and all that was asked for was written.\n",
         );
 }

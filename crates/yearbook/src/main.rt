@@ -6,80 +6,123 @@ mod input; // input.rt: the input, read whole
 mod output; // output.rt: what goes to standard output and standard error
 
 use arguments::{Asked, Word, help, too_many, unknown, usage, word_of};
-use libc::STDIN_FILENO;
 use output::{fail, tell};
+use std::env::FillError;
+use std::fs::File;
+use std::io;
+use std::io::Read;
+use std::rt::Env;
 
-// What the word asks for, of a descriptor that the name stands for.
-fn answer(asked: Asked, descriptor: i32, name: &[u8]) {
+// The most bytes of an argument: those of the longest path.
+const MOST_ARGUMENT: usize = 4096;
+
+// The system's numbers of two errors: a name too long, and a name that is no UTF-8.
+const NAME_TOO_LONG: i32 = 36;
+
+const NO_TEXT: i32 = 84;
+
+// What the word asks for, of a reader that the name stands for.
+fn answer<R: Read>(rt: &HostRuntime, asked: Asked, reader: &mut R, name: &[u8]) {
     let mut space = [0u8; listing::MOST_INPUT + 1]; // one byte more than is taken, so that longer input is known
-    let taken = input::read_whole(descriptor, &mut space);
-    if taken.is_failed {
-        fail(name);
-        return;
+    let taken = input::read_whole(reader, &mut space);
+    match taken.failure {
+        Some(error) => fail(rt, name, error),
+        None => {
+            let count = taken.count;
+            tell(rt, asked, &space[..count]);
+        }
     }
-    let count = taken.count;
-    tell(asked, &space[..count]);
+}
+
+// What the word asks for, of standard input.
+fn answer_standard_input(rt: &HostRuntime, asked: Asked) {
+    answer(rt, asked, &mut rt.stdin(), b"standard input");
+}
+
+// The file, opened for reading. A name that is no UTF-8 opens none.
+fn open(rt: &HostRuntime, path: &[u8]) -> io::Result<File> {
+    match str::from_utf8(path) {
+        Ok(name) => File::open(rt, name),
+        Err(_) => Err(io::Error::from_raw_os_error(NO_TEXT)),
+    }
 }
 
 // What the word asks for, of a file; answers whether the file could be opened.
-fn answer_file(asked: Asked, path: &[u8]) -> bool {
-    let descriptor = os::open_read(path);
-    if descriptor < 0 {
-        fail(path);
-        return false;
+fn answer_file(rt: &HostRuntime, asked: Asked, path: &[u8]) -> bool {
+    match open(rt, path) {
+        Ok(mut file) => {
+            answer(rt, asked, &mut file, path);
+            true
+        }
+        Err(error) => {
+            fail(rt, path, error);
+            false
+        }
     }
-    answer(asked, descriptor, path);
-    libc::close(descriptor);
-    true
 }
 
-fn main() {
-    let count = os::arg_count();
-    if count < 2 {
-        answer(Asked::Listing, STDIN_FILENO, b"standard input");
-        return;
+// Whether the program was given an argument at this place.
+fn is_given(rt: &HostRuntime, place: usize) -> bool {
+    match rt.arg(place, &mut []) {
+        Ok(_) => true,
+        Err(FillError::TooLong) => true,
+        Err(FillError::NotPresent) => false,
     }
-    let mut first = io::buffer();
-    let length = os::arg(1, &mut first);
-    if os::errno() != 0 {
-        fail(b"first argument");
-        return;
-    }
-    match word_of(&first[..length]) {
-        Word::Help => {
-            if count > 2 {
-                too_many();
-                return;
-            }
-            help();
+}
+
+// Says that an argument is longer than any path.
+fn fail_too_long(rt: &HostRuntime, name: &[u8]) {
+    fail(rt, name, io::Error::from_raw_os_error(NAME_TOO_LONG));
+}
+
+// What the word asks for, of the file that the second argument names.
+fn answer_second(rt: &HostRuntime, asked: Asked) {
+    let mut second = [0u8; MOST_ARGUMENT];
+    match rt.arg(2, &mut second) {
+        Ok(size) => {
+            answer_file(rt, asked, &second[..size]);
         }
-        Word::Unknown => unknown(&first[..length]),
+        Err(FillError::TooLong) => fail_too_long(rt, b"second argument"),
+        Err(FillError::NotPresent) => answer_standard_input(rt, asked),
+    }
+}
+
+// What the first argument asks for.
+fn answer_first(rt: &HostRuntime, first: &[u8]) {
+    match word_of(first) {
+        Word::Help => {
+            if is_given(rt, 2) {
+                too_many(rt);
+                return;
+            }
+            help(rt);
+        }
+        Word::Unknown => unknown(rt, first),
         Word::Print(asked) => {
-            if count == 2 {
-                answer(asked, STDIN_FILENO, b"standard input");
+            if is_given(rt, 3) {
+                too_many(rt);
                 return;
             }
-            if count > 3 {
-                too_many();
-                return;
-            }
-            let mut second = io::buffer();
-            let size = os::arg(2, &mut second);
-            if os::errno() != 0 {
-                fail(b"second argument");
-                return;
-            }
-            answer_file(asked, &second[..size]);
+            answer_second(rt, asked);
         }
         Word::File => {
-            if count > 2 {
-                unknown(&first[..length]);
+            if is_given(rt, 2) {
+                unknown(rt, first);
                 return;
             }
             // a file that stands alone may be a mistyped word
-            if !answer_file(Asked::Listing, &first[..length]) {
-                usage();
+            if !answer_file(rt, Asked::Listing, first) {
+                usage(rt);
             }
         }
+    }
+}
+
+fn main(rt: HostRuntime) {
+    let mut first = [0u8; MOST_ARGUMENT];
+    match rt.arg(1, &mut first) {
+        Ok(length) => answer_first(&rt, &first[..length]),
+        Err(FillError::TooLong) => fail_too_long(&rt, b"first argument"),
+        Err(FillError::NotPresent) => answer_standard_input(&rt, Asked::Listing),
     }
 }

@@ -6,43 +6,76 @@ use desk::{
     LONGEST_FINDINGS, LONGEST_REPLY, Rest, Sizes, all_replies, put_desk, put_printed, put_reply,
     put_run,
 };
-use libc::{STDERR_FILENO, STDOUT_FILENO};
 use listing::{LONGEST, MOST_INPUT};
+use std::io;
+use std::io::Write;
+
+// Room for the words of an error and its number.
+const MOST_WORDS: usize = 128;
+
+// The text on standard error; whether it was written is told to nobody.
+pub fn say(rt: &HostRuntime, text: &[u8]) {
+    let _ = Print::write_all(&rt.stderr(), text);
+}
+
+// How many of an error's bytes are its words: those before the blank and the bracket in which the system's number stands, or before the first 0.
+fn words_of(text: &[u8]) -> usize
+    ensures { result ≤ length text.now }
+{
+    for (i, byte) in text.iter().enumerate() {
+        if *byte == 0 {
+            return i;
+        }
+        if *byte == b'(' && i > 0 {
+            return i - 1;
+        }
+    }
+    text.len()
+}
 
 // Says what failed, and why, in the system's words.
-pub fn fail(name: &[u8]) {
-    io::write_all(STDERR_FILENO, b"yearbook: ");
-    os::fail(name);
+pub fn fail(rt: &HostRuntime, name: &[u8], error: io::Error) {
+    let mut text = [0u8; MOST_WORDS];
+    let mut room: &mut [u8] = &mut text;
+    let _ = write!(room, "{error}");
+    let size = words_of(&text);
+    say(rt, b"yearbook: ");
+    say(rt, name);
+    say(rt, b": ");
+    say(rt, &text[..size]);
+    say(rt, b"\n");
 }
 
 // The text on standard output; answers whether it was written.
-pub fn print(text: &[u8]) -> bool {
-    let is_written = io::write_all(STDOUT_FILENO, text);
-    if !is_written {
-        fail(b"standard output");
+pub fn print(rt: &HostRuntime, text: &[u8]) -> bool {
+    match Print::write_all(&rt.stdout(), text) {
+        Ok(()) => true,
+        Err(error) => {
+            fail(rt, b"standard output", error);
+            false
+        }
     }
-    is_written
 }
 
 // The next line of the replies on standard output; answers the rest behind it, none where the line was not written.
-fn print_next(input: &[u8], rest: Rest) -> Rest
+fn print_next(rt: &HostRuntime, input: &[u8], rest: Rest) -> Rest
     ensures { 0 < rest.left → result.left < rest.left }
 {
     let mut line = [0u8; LONGEST_REPLY];
     let told = put_reply(input, rest, &mut line);
     let size = told.size;
     let mut behind = told.rest;
-    if !print(&line[..size]) {
+    if !print(rt, &line[..size]) {
         behind.left = 0;
     }
     behind
 }
 
 // The replies on standard output, line by line.
-fn print_replies(input: &[u8]) {
+fn print_replies(rt: &HostRuntime, input: &[u8]) {
     let mut rest = all_replies(input);
     while rest.left > 0 {
-        rest = print_next(input, rest);
+        rest = print_next(rt, input, rest);
     }
 }
 
@@ -74,16 +107,16 @@ fn put_asked(
 }
 
 // What is found wrong with an input, and then what is asked for: who reads this may leave, as `head` does, and end the program.
-pub fn tell(asked: Asked, input: &[u8]) {
+pub fn tell(rt: &HostRuntime, asked: Asked, input: &[u8]) {
     let mut output = [0u8; LONGEST];
     let mut findings = [0u8; LONGEST_FINDINGS];
     let sizes = put_asked(asked, input, &mut output, &mut findings);
     let found = sizes.findings;
-    io::write_all(STDERR_FILENO, &findings[..found]);
+    say(rt, &findings[..found]);
     if is_replies(asked) && input.len() <= MOST_INPUT {
-        print_replies(input);
+        print_replies(rt, input);
     } else {
         let size = sizes.output;
-        print(&output[..size]);
+        print(rt, &output[..size]);
     }
 }
