@@ -34,42 +34,40 @@ module _ (unit : ℕ) (act : UnitCall) (stage : Stage) (u : Unit) (rs : List ℕ
 pub returns-then-number-ne0 : goal.returns-then-number-ne0
 returns-then-number-ne0 c =
     let a = c.args in
-    let k = c.act-1.given in
-    rw k.1 (barred a.unit _ a.stage a.u a.readings.now (enrolment_unlent a.unit k.0.0 k.0.1.0 k.0.1.1.0 k.0.1.1.1.0 k.0.1.1.1.1.0 k.0.1.1.1.1.1.0 k.0.1.1.1.1.1.1.0 k.0.1.1.1.1.1.1.1.0 a.readings.now) c.barred-number.ensures c.if-number-ne0.true)
+    let k = c.in-Enrol in
+    rw k.is (barred a.unit _ a.stage a.u a.readings.now (enrolment_unlent a.unit k.producer k.kind k.flags k.pic k.ppr k.e1 k.e2 k.cap a.readings.now) c.barred-number.ensures c.if-number-ne0.true)
 
 pub returns-then-number-ne0-2 : goal.returns-then-number-ne0-2
 unfolding unit_answer_of unit_number
 returns-then-number-ne0-2 c =
-    let a = c.args in
-    let k = c.act-in-Test-1.given in
-    rw k.1 (refused_by _ Refused (fields_refuse _ a.readings.now _ c.unit_number-number.ensures c.if-number-ne0-2.true) c.if-number-ne0-2.true)
+    rw c.in-Test.is (refused_by _ Refused (fields_refuse _ c.args.readings.now _ c.unit_number-number.ensures c.if-number-ne0-2.true) c.if-number-ne0-2.true)
 
 pub returns-then-number-ne0-3 : goal.returns-then-number-ne0-3
 returns-then-number-ne0-3 c =
     let a = c.args in
-    let k = c.act-in-Availability-1.given in
-    rw k.1 (barred a.unit _ a.stage a.u a.readings.now (availability_unlent a.unit k.0.0 k.0.1.0 k.0.1.1.0 k.0.1.1.1.0 k.0.1.1.1.1.0 a.readings.now) c.barred-number-in-Availability.ensures c.if-number-ne0-3.true)
+    let k = c.in-Availability in
+    rw k.is (barred a.unit _ a.stage a.u a.readings.now (availability_unlent a.unit k.component k.hd k.hmp k.hif k.hed a.readings.now) c.barred-number-in-Availability.ensures c.if-number-ne0-3.true)
 
 pub returns-else-number-ne0 : goal.returns-else-number-ne0
 unfolding unit_rest unit_after
 returns-else-number-ne0 c =
     let a = c.args in
-    let k = c.act-1.given in
+    let k = c.in-Enrol in
     c.enrolment_answer.ensures
-    ∙ rw k.1 (asked a.unit _ a.stage a.u a.readings.now (enrolment_unlent a.unit k.0.0 k.0.1.0 k.0.1.1.0 k.0.1.1.1.0 k.0.1.1.1.1.0 k.0.1.1.1.1.1.0 k.0.1.1.1.1.1.1.0 k.0.1.1.1.1.1.1.1.0 a.readings.now) c.barred-number.ensures c.if-number-ne0.false)
+    ∙ rw k.is (asked a.unit _ a.stage a.u a.readings.now (enrolment_unlent a.unit k.producer k.kind k.flags k.pic k.ppr k.e1 k.e2 k.cap a.readings.now) c.barred-number.ensures c.if-number-ne0.false)
 
 pub returns-else-number-ne0-2 : goal.returns-else-number-ne0-2
 unfolding unit_answer_of unit_number unit_rest unit_after
 returns-else-number-ne0-2 c =
     let a = c.args in
-    let k = c.act-in-Test-1.given in
+    let k = c.in-Test in
     c.test_answer.ensures
-    ∙ rw k.1 (ap (λ n. unit_answered n (tested_unit a.u k.0.0 k.0.1.0 k.0.1.1.0 k.0.1.1.1.0 a.readings.now)) (test_in_fields a.unit k.0.0 k.0.1.0 k.0.1.1.0 k.0.1.1.1.0 a.readings.now _ c.unit_number-number.ensures c.if-number-ne0-2.false))
+    ∙ rw k.is (ap (λ n. unit_answered n (tested_unit a.u k.component k.ending k.tc k.count a.readings.now)) (test_in_fields a.unit k.component k.ending k.tc k.count a.readings.now _ c.unit_number-number.ensures c.if-number-ne0-2.false))
 
 pub returns-else-number-ne0-3 : goal.returns-else-number-ne0-3
 unfolding unit_rest unit_after
 returns-else-number-ne0-3 c =
     let a = c.args in
-    let k = c.act-in-Availability-1.given in
+    let k = c.in-Availability in
     c.availability_answer.ensures
-    ∙ rw k.1 (asked a.unit _ a.stage a.u a.readings.now (availability_unlent a.unit k.0.0 k.0.1.0 k.0.1.1.0 k.0.1.1.1.0 k.0.1.1.1.1.0 a.readings.now) c.barred-number-in-Availability.ensures c.if-number-ne0-3.false)
+    ∙ rw k.is (asked a.unit _ a.stage a.u a.readings.now (availability_unlent a.unit k.component k.hd k.hmp k.hif k.hed a.readings.now) c.barred-number-in-Availability.ensures c.if-number-ne0-3.false)
