@@ -3,6 +3,7 @@ use mathlib.Core.Path.{◌≡◌, refl, ap, ◌∙◌}
 use Prim.Native.Nat.{◌+◌, ◌-◌, ◌*◌, ◌≤◌}
 use lib.ListN.{take, drop}
 use Rattle.quantities.specs.Limits.{consumers}
+use Rattle.basis.specs.Sums.{sum as total}
 use Rattle.state.specs.State.{greatest_cell}
 use Rattle.decision.proofs.contracts.row_sum.Given as goal
 
