@@ -1,5 +1,5 @@
 -- The numbered replies in words.
-use Rattle.std.specs.Prelude.{List, [], ◌∷◌, ◌++◌, ℕ, ◌+◌, ◌*◌, get_or}
+use Rattle.std.specs.Prelude.{List, [], ◌∷◌, ◌++◌, ℕ, ◌*◌, get_or}
 use Rattle.text.specs.Text.{decimal, line_most, bytes}
 
 -- the table of "Numbered replies" in short words, from 0 on

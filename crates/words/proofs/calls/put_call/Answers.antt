@@ -11,5 +11,5 @@ pub returns : goal.returns
 unfolding call_text fields_of
 returns c =
     puts_within (omega arith)
-    (puts_more (omega arith) (puts_phrase (call_name c.args.call) c.name_of.ensures.0 c.put_phrase-first.ensures)
+    (puts_more (omega arith) (puts_phrase (call_name c.args.call) c.name_of.ensures.value c.put_phrase-first.ensures)
     (λ h. puts_more h (rw c.fields_of-fields.ensures at c.put_fields-behind.ensures) (λ k. c.put_readings.ensures)))

@@ -1,9 +1,6 @@
 use mathlib.Core.Path.{◌≡◌, refl}
-use Prim.Native.Nat.{◌-◌, ◌*◌, ◌≤◌}
 use native.Mathlib.Omega.{arith}
-use lib.ListN.{length}
 use Rattle.table.specs.Records.{most_fields}
-use Rattle.text.specs.Text.{Puts, line_most, joined}
 use Rattle.text.proofs.Joining.{puts_joined_none, puts_joined}
 use Rattle.words.specs.Calls.{field_at, fields_text}
 use Rattle.words.proofs.calls.put_fields.Goals as goal
@@ -21,7 +18,7 @@ loop-i-preserved c =
     let l = c.loop-i in
     let a = c.args in (
       omega arith,
-      omega (arith, c.put_field-place.auto.0),
+      omega (arith, c.put_field-place.auto.out),
       puts_joined (field_at a.widths a.values) l.i (omega arith) l.invariant.2 c.put_field-place.ensures,
     )
 

@@ -1,10 +1,10 @@
 -- `words::put_fields` meets its contract. The invariant: the first i fields stand in the buffer. Assumes nothing.
-use mathlib.Core.Path.{◌≡◌, refl}
+use mathlib.Core.Path.{◌≡◌}
 use Prim.Native.Nat.{◌-◌, ◌*◌, ◌≤◌}
 use lib.ListN.{length}
 use Rattle.table.specs.Records.{most_fields}
 use Rattle.text.specs.Text.{Puts, line_most, joined}
-use Rattle.words.specs.Calls.{field_at, fields_text}
+use Rattle.words.specs.Calls.{field_at}
 use Rattle.words.proofs.calls.put_fields.Given as goal
 
 abbrev pub invariant-loop-i : goal.invariant-loop-i

@@ -1,11 +1,9 @@
-use mathlib.Core.Path.{◌≡◌, refl, sym}
-use Prim.Native.Nat.{◌-◌, ◌*◌, ◌≤◌}
+use mathlib.Core.Path.{◌≡◌, refl}
 use native.Mathlib.Omega.{arith}
 use lib.ListN.{length}
-use Rattle.text.specs.Text.{Puts, line_most, joined}
 use Rattle.text.proofs.Joining.{puts_joined_none, puts_joined}
-use Rattle.text.proofs.Putting.{puts_as, puts_within}
-use Rattle.words.specs.Calls.{most_shown, shown_readings, reading_at, readings_in}
+use Rattle.text.proofs.Putting.{puts_within}
+use Rattle.words.specs.Calls.{shown_readings, reading_at, readings_in}
 use Rattle.words.proofs.calls.put_readings.Goals as goal
 
 pub loop-i-init : goal.loop-i-init
@@ -22,7 +20,7 @@ loop-i-preserved c =
     let a = c.args in (
       omega arith,
       l.invariant.1,
-      omega (arith, c.put_value-place.auto.0),
+      omega (arith, c.put_value-place.auto.out),
       puts_joined (reading_at a.readings.now) l.i (omega arith) l.invariant.3 (rw c.number_at.ensures at c.put_value-place.ensures),
     )
 

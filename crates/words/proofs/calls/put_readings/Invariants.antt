@@ -1,9 +1,9 @@
 -- `words::put_readings` meets its contract. The invariant: the first i readings stand in the buffer. Assumes nothing.
-use mathlib.Core.Path.{◌≡◌, refl, sym}
+use mathlib.Core.Path.{◌≡◌}
 use Prim.Native.Nat.{◌-◌, ◌*◌, ◌≤◌}
 use lib.ListN.{length}
 use Rattle.text.specs.Text.{Puts, line_most, joined}
-use Rattle.words.specs.Calls.{most_shown, shown_readings, reading_at, readings_in}
+use Rattle.words.specs.Calls.{shown_readings, reading_at}
 use Rattle.words.proofs.calls.put_readings.Given as goal
 
 abbrev pub invariant-loop-i : goal.invariant-loop-i

@@ -1,21 +1,16 @@
 -- `words::put_value` meets its contract. Assumes nothing.
-use Prim.Native.Nat.{◌^◌, ◌<◌}
 use native.Mathlib.Omega.{arith}
 use borrow.Author.Rules.{rules}
 use Rattle.text.proofs.Putting.{puts_then, puts_within, decimal-short_64}
 use Rattle.words.specs.Calls.{value_text}
 use Rattle.words.proofs.calls.put_value.Goals as goal
-use Rattle.words.proofs.calls.put_value.Goals.{Start}
-
-fits : (c : Start) → c.args.value < 2 ^ 64
-fits c = search rules
 
 pub put_decimal-requires : goal.put_decimal-requires
 put_decimal-requires c =
-    omega (arith, decimal-short_64 c.args.value (fits c.before.before.before.before.before.before), c.put_byte-digits.ensures.next)
+    omega (arith, decimal-short_64 c.args.value (search rules), c.put_byte-digits.ensures.next)
 
 pub returns : goal.returns
 unfolding value_text
 returns c =
-    puts_within (omega (arith, decimal-short_64 c.args.value (fits c.before.before.before.before.before.before.before.before.before)))
+    puts_within (omega (arith, decimal-short_64 c.args.value (search rules)))
     (puts_then (omega arith) c.put_byte-digits.ensures c.put_decimal.ensures)

@@ -12,4 +12,4 @@ returns c =
     puts_within (omega arith)
     (puts_more (omega arith) c.put_figure-blank.ensures
     (λ h. puts_more h c.put_byte-words.ensures
-    (λ k. puts_more k (puts_phrase (meaning c.args.number) c.meaning_of.ensures.0 c.put_phrase-end.ensures) (λ l. c.put_byte.ensures))))
+    (λ k. puts_more k (puts_phrase (meaning c.args.number) c.meaning_of.ensures.value c.put_phrase-end.ensures) (λ l. c.put_byte.ensures))))
