@@ -2,6 +2,7 @@
 use mathlib.Core.Path.{◌≡◌, sym, ◌∙◌}
 use Prim.Native.Nat.{◌-◌, ◌≤◌}
 use lib.ListN.{drop}
+use Rattle.quantities.specs.Limits.{units as greatest_unit}
 use Rattle.questions.specs.Questions.{has_unit}
 use Rattle.questions.proofs.has_unit.Given as goal
 

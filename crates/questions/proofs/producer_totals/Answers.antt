@@ -1,6 +1,7 @@
 -- `questions::producer_totals` meets its contract. Assumes nothing.
+use mathlib.Core.Path.{sym, ◌∙◌}
 use Rattle.quantities.specs.Limits.{producers}
-use Rattle.basis.proofs.Answers.{answered_yes, answered_no, in_between, below_range, above_range}
+use Rattle.basis.proofs.Answers.{in_between, below_range, above_range}
 use Rattle.questions.specs.Questions.{producer_totals_of}
 use Rattle.questions.proofs.Values.{producer_told}
 use Rattle.questions.proofs.producer_totals.Goals as goal
@@ -17,11 +18,11 @@ pub returns-then-not-has_unit : goal.returns-then-not-has_unit
 unfolding producer_totals_of
 returns-then-not-has_unit c =
     producer_told _ _
-    (simp (in_between 1 producers _ c.if-n-lt1.false c.if-n-gt-PRODUCERS.false, answered_no c.has_unit.ensures c.if-not-has_unit.true))
+    (simp (in_between 1 producers _ c.if-n-lt1.false c.if-n-gt-PRODUCERS.false, sym c.has_unit.ensures ∙ c.if-not-has_unit.true))
 
 pub returns : goal.returns
 unfolding producer_totals_of
 returns c =
-    let owns = answered_yes c.has_unit.ensures c.if-not-has_unit.false in
+    let owns = sym c.has_unit.ensures ∙ c.if-not-has_unit.false in
     producer_told _ _
     (simp (in_between 1 producers _ c.if-n-lt1.false c.if-n-gt-PRODUCERS.false, owns, c.producer_balance-committed.ensures))
