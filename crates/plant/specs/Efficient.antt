@@ -1,5 +1,5 @@
 -- The efficient offer ("Efficient offer", 2.2.1 c, 2.2.2).
-use Rattle.std.specs.Prelude.{Bool, true, List, ℕ, ◌/◌, ◌%◌, leb, eqb, get_or}
+use Rattle.std.specs.Prelude.{true, List, ℕ, leb, get_or}
 use Rattle.basis.specs.Choice.{pick}
 use Rattle.basis.specs.Sums.{sum_up}
 use Rattle.basis.specs.Tables.{tab}

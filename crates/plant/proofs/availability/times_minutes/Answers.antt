@@ -6,7 +6,7 @@ use native.Mathlib.Omega.{arith}
 use Rattle.plant.proofs.availability.times_minutes.Goals as goal
 
 pub overflow_mul-times : goal.overflow_mul-times
-overflow_mul-times c = c.args in record { fits = product_fits a.power.0 a.m (omega arith) c.requires.1 }
+overflow_mul-times c = let a = c.args in record { fits = product_fits a.power.0 a.m (omega arith) c.requires.1 }
 
 pub overflow_cast-result : goal.overflow_cast-result
 overflow_cast-result c =

@@ -1,6 +1,6 @@
 use mathlib.Core.Path.{◌≡◌, refl, sym, ap, ◌∙◌}
-use Prim.Native.Nat.{ℕ, ◌-◌, ◌≤◌}
-use lib.ListN.{length, take, get_or, length-set}
+use Prim.Native.Nat.{ℕ}
+use lib.ListN.{get_or, length-set}
 use lib.Seq.{take_all}
 use Rattle.quantities.specs.Limits.{units}
 use Rattle.plant.specs.Efficient.{efficient_offer, efficient_offers}

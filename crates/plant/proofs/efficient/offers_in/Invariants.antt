@@ -1,9 +1,9 @@
 -- `plant::efficient::offers_in` meets its contract. The invariant: the units passed have their efficient offers. Assumes nothing.
-use mathlib.Core.Path.{◌≡◌, refl, sym, ap, ◌∙◌}
-use Prim.Native.Nat.{ℕ, ◌-◌, ◌≤◌}
-use lib.ListN.{length, take, get_or, length-set}
+use mathlib.Core.Path.{◌≡◌}
+use Prim.Native.Nat.{◌-◌, ◌≤◌}
+use lib.ListN.{length, take}
 use Rattle.quantities.specs.Limits.{units}
-use Rattle.plant.specs.Efficient.{efficient_offer, efficient_offers}
+use Rattle.plant.specs.Efficient.{efficient_offers}
 use Rattle.plant.proofs.efficient.offers_in.Given as goal
 
 abbrev pub invariant-loop-i : goal.invariant-loop-i

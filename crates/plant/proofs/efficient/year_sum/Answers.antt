@@ -1,5 +1,5 @@
 use mathlib.Core.Path.{◌≡◌, refl, ap, ◌∙◌}
-use Prim.Native.Nat.{◌+◌, ◌-◌, ◌*◌, ◌≤◌}
+use Prim.Native.Nat.{◌+◌}
 use Rattle.quantities.specs.Limits.{units}
 use Rattle.plant.specs.Efficient.{year_sum}
 use Rattle.basis.specs.Sums.{sum_up}

@@ -1,6 +1,6 @@
 -- `plant::efficient::year_sum` meets its contract. The invariant: the sum so far is that of the units passed. Assumes nothing.
-use mathlib.Core.Path.{◌≡◌, refl, ap, ◌∙◌}
-use Prim.Native.Nat.{◌+◌, ◌-◌, ◌*◌, ◌≤◌}
+use mathlib.Core.Path.{◌≡◌}
+use Prim.Native.Nat.{◌-◌, ◌*◌, ◌≤◌}
 use Rattle.quantities.specs.Limits.{units}
 use Rattle.plant.specs.Efficient.{year_sum}
 use Rattle.plant.proofs.efficient.year_sum.Given as goal
