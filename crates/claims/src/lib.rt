@@ -1,3 +1,35 @@
-// Theorems about the book, with no code: demand 3 over every list of calls (specs/Demand.antt).
+// Theorems about the book: each function does nothing, and its contract is one theorem of specs/.
 
 #![tactic(auto)]
+
+ghost use Rattle.std.specs.Prelude.{List, ℕ};
+ghost use Rattle.claims.specs.Demand.{Claim};
+ghost use Rattle.claims.specs.Refusals.{ExactRefusals};
+ghost use Rattle.claims.specs.Cases.{Thirteen};
+ghost use Rattle.claims.specs.Printed.{AlwaysPrinted};
+ghost use Rattle.claims.specs.Journals.{EveryJournal};
+
+// Demand 3 holds after every list of calls.
+pub fn demand3()
+    ensures { Claim }
+{}
+
+// After every list of calls, any further call answers the number of the listed conditions.
+pub fn exact_refusals()
+    ensures { ExactRefusals }
+{}
+
+// The thirteen cases that the papers fix.
+pub fn thirteen()
+    ensures { Thirteen }
+{}
+
+// What is promised of the printed close holds after every list of calls.
+pub fn always_printed()
+    ensures { AlwaysPrinted }
+{}
+
+// What is promised of the run holds of every journal.
+pub fn every_journal()
+    ensures { (journal : List ℕ) → EveryJournal journal }
+{}
