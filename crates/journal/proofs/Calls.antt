@@ -78,4 +78,4 @@ length_places s = length_places_from (suc (length s)) s 0
 pub length-numbers : (b : Book) (es : List Event) → length (numbers_after b es) ≡ length es
 unfolding numbers_after
 length-numbers b [] = refl
-length-numbers b (e ∷ es) = ap suc (length-numbers _ es)
+length-numbers b (e ∷ es) = ap suc (length-numbers (reply_to b e).book es)
