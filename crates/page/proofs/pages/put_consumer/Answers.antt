@@ -16,11 +16,6 @@ slice_bounds-put_line-count c =
     let f = line-fits c.args.lines (one_line c.args.number c.args.lines (length c.args.out.now) c.in-Declared.is c.requires).1 c.begin_page-place.ensures in
     omega (arith, f)
 
-{- no need slice-bounds-put-line-start
-part-put-line-start : tie.Need-slice-bounds-put-line-start
-part-put-line-start c = sub-put-line c
--}
-
 pub put_line-requires : goal.put_line-requires
 put_line-requires c =
     part_fits c.args.lines (one_line c.args.number c.args.lines (length c.args.out.now) c.in-Declared.is c.requires).1 c.begin_page-place.ensures
@@ -29,7 +24,11 @@ pub returns-in-Undeclared : goal.returns-in-Undeclared
 unfolding added_behind
 returns-in-Undeclared c =
     let a = c.args in
-    rw c.in-Undeclared.is (omega arith, puts_within (omega arith) (puts_none a.out.now (bytes_for a.lines)))
+    rw c.in-Undeclared.is
+    record {
+      value = omega arith;
+      puts = puts_within (omega arith) (puts_none a.out.now (bytes_for a.lines));
+    }
 
 pub returns-in-Declared : goal.returns-in-Declared
 unfolding added_behind
@@ -37,4 +36,7 @@ returns-in-Declared c =
     let a = c.args in
     let f = c.in-Declared.figures in
     rw c.in-Declared.is
-    (refl, line_added a.lines (one_line a.number a.lines (length a.out.now) c.in-Declared.is c.requires).1 c.begin_page-place.ensures (length-line a.number f.df a.dfa a.charge a.credit) c.put_line.ensures)
+    record {
+      value = refl;
+      puts = line_added a.lines (one_line a.number a.lines (length a.out.now) c.in-Declared.is c.requires).1 c.begin_page-place.ensures (length-line a.number f.df a.dfa a.charge a.credit) c.put_line.ensures;
+    }

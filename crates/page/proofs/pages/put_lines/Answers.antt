@@ -28,8 +28,8 @@ loop-i-preserved c =
     let space = room_for_one a.consumers l.i l.lines (length a.out.now) (omega arith) l.invariant.2.count c.requires in
     let before = le_trans (bytes-within l.lines (l.lines + length (number_at a.consumers l.i)) (omega arith)) space.1 in (
       omega arith,
-      omega (arith, put.auto.0),
-      standing_more a.consumers a.adjusted a.charges a.credits before l.invariant.2 put.ensures.0 put.ensures.1,
+      omega (arith, put.auto.out),
+      standing_more a.consumers a.adjusted a.charges a.credits before l.invariant.2 put.ensures.value put.ensures.puts,
     )
 
 pub shape_of-out : goal.shape_of-out
