@@ -1,8 +1,8 @@
 -- `record::fields::put_bytes` meets its contract: the invariant: with what is still to be written over it, out is what it is to be.
 -- Assumes nothing.
-use mathlib.Core.Path.{◌≡◌, refl, sym, ap, ◌∙◌}
-use Prim.Native.Nat.{ℕ, suc, ◌+◌, ◌-◌, ◌≤◌}
-use lib.ListN.{drop_of_length-le, length, get_or, drop, set, length-set}
+use mathlib.Core.Path.{◌≡◌}
+use Prim.Native.Nat.{◌+◌, ◌-◌, ◌≤◌}
+use lib.ListN.{length, drop}
 use Rattle.basis.specs.Numbers.{written}
 use Rattle.record.proofs.fields.put_bytes.Given as goal
 

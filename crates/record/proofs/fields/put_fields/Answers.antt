@@ -1,14 +1,11 @@
 use mathlib.Core.List.{List}
-use mathlib.Core.Path.{◌≡◌, sym, ap, ◌∙◌}
-use Prim.Native.Nat.{ℕ, ◌+◌, ◌-◌, ◌≤◌}
+use mathlib.Core.Path.{sym, ap, ◌∙◌}
+use Prim.Native.Nat.{ℕ, ◌+◌, ◌≤◌}
 use native.Mathlib.Omega.{arith}
-use lib.ListN.{length, get_or, drop}
+use lib.ListN.{length, get_or}
 use Rattle.basis.proofs.Numbers.{written_none}
 use Rattle.basis.proofs.Sums.{sum-next}
 use Rattle.basis.specs.Numbers.{written}
-use Rattle.basis.specs.Sums.{sum}
-use Rattle.table.specs.Fields.{encode}
-use Rattle.table.specs.Records.{most_fields}
 use Rattle.record.proofs.Turns.{encode_more, encode_end}
 use Rattle.record.proofs.fields.put_fields.Goals as goal
 
@@ -35,7 +32,7 @@ loop-i-preserved c =
       omega arith,
       l.invariant.1,
       l.invariant.2,
-      c.put_number.auto.0 ∙ l.invariant.3,
+      omega arith,
       omega (arith, m),
       rw e (encode_more a.widths a.values l.out l.i l.place (omega arith) (omega arith) p) ∙ l.invariant.5,
     )

@@ -1,8 +1,8 @@
 -- `record::fields::put_fields` meets its contract: the invariant: with what is still to be written over it, out is what it is to be.
 -- Assumes nothing.
-use mathlib.Core.Path.{◌≡◌, sym, ap, ◌∙◌}
-use Prim.Native.Nat.{ℕ, ◌+◌, ◌-◌, ◌≤◌}
-use lib.ListN.{length, get_or, drop}
+use mathlib.Core.Path.{◌≡◌}
+use Prim.Native.Nat.{◌+◌, ◌-◌, ◌≤◌}
+use lib.ListN.{length, drop}
 use Rattle.basis.specs.Numbers.{written}
 use Rattle.basis.specs.Sums.{sum}
 use Rattle.table.specs.Fields.{encode}

@@ -1,18 +1,14 @@
 -- `record::reading::read_at` meets its contract: by the lengths compared and the mark found.
 -- Assumes nothing.
-use mathlib.Core.Path.{◌≡◌, sym, ap, ◌∙◌}
-use Prim.Native.Nat.{ℕ}
+use mathlib.Core.Path.{sym, ap, ◌∙◌}
 use native.Mathlib.Omega.{arith}
 use Rattle.basis.proofs.Numbers.{number_at_below}
 use Rattle.table.specs.Records.{marks, mark_at}
 use Rattle.record.specs.Reading.{read_found}
 use Rattle.table.specs.declared.forms.Found.{Found}
-use Rattle.table.specs.declared.forms.Found.TheVariants.{One}
-use Rattle.table.specs.declared.forms.Mark.{Mark}
 use Rattle.record.proofs.Reader.{at_end, at_one, at_two}
-use Rattle.record.proofs.Shows.{Named, mark_found}
+use Rattle.record.proofs.Shows.{mark_found}
 use Rattle.record.proofs.reading.read_at.Goals as goal
-use Rattle.record.proofs.reading.read_at.Goals.{After-mark_at}
 
 pub returns-then-journal-at : goal.returns-then-journal-at
 returns-then-journal-at c =
@@ -30,13 +26,10 @@ overflow_cast-number_at c =
     omega (arith, c.number_at.ensures, number_at_below 2 a.journal.now a.at (λ k. omega (arith, c.type_inv.journal k)))
 
 -- the mark that was found names the record, with its sizes
-named : (w : After-mark_at) {m : Mark} {size width : ℕ} → w.mark_at.result ≡ One m size width → Named w.number_at.result m size width
-named w {m} {size} {width} e =
-    mark_found w.number_at.result marks m size width (sym w.mark_at.ensures ∙ e)
-
 pub read_marked-requires : goal.read_marked-requires
 read_marked-requires c =
-    let k = named c.before.before.before c.in-One.is in
+    let o = c.in-One in
+    let k = mark_found c.number_at.result marks o.mark o.size o.reading_width (sym c.mark_at.ensures ∙ o.is) in
     (c.if-journal-at.false, k.size_right, k.width_right)
 
 pub returns-in-Nothing : goal.returns-in-Nothing

@@ -6,31 +6,33 @@ use native.Mathlib.Omega.{arith}
 use borrow.Author.Tests.{ltb-true}
 use Rattle.table.specs.Records.{widest, parts_of, form_of, fields_size, readings_size}
 use Rattle.table.specs.Ranges.{fields_of}
+use Rattle.table.specs.declared.calls.Call.{Call}
 use Rattle.table.specs.declared.forms.Fields.{Fields}
 use Rattle.table.proofs.Table.{lawful, narrow_reading, readings_by_fields}
 use Rattle.record.proofs.sizes.record_size.Goals as goal
-use Rattle.record.proofs.sizes.record_size.Goals.{After-fields_of-fields}
 
 -- the form is that of the call's record
-size_of : (w : After-fields_of-fields) → w.fields_of-fields.result.form.size ≡ fields_size w.args.call
+size_of : (k : Call) {f : Fields} → f ≡ fields_of k → f.form.size ≡ fields_size k
 unfolding fields_of
-size_of w = ap (λ (f : Fields). f.form.size) w.fields_of-fields.ensures
+size_of k e = ap (λ (f : Fields). f.form.size) e
 
-narrow : (w : After-fields_of-fields) → w.fields_of-fields.result.form.reading_width ≤ widest
+narrow : (k : Call) {f : Fields} → f ≡ fields_of k → f.form.reading_width ≤ widest
 unfolding fields_of
-narrow w =
-    omega (arith, ap (λ (f : Fields). f.form.reading_width) w.fields_of-fields.ensures, narrow_reading (parts_of w.args.call).mark)
+narrow k e = omega (arith, ap (λ (g : Fields). g.form.reading_width) e, narrow_reading (parts_of k).mark)
 
 pub readings_behind-requires : goal.readings_behind-requires
-readings_behind-requires c = narrow c.before.before
+readings_behind-requires c = narrow c.args.call c.fields_of-fields.ensures
 
 pub overflow_add-result : goal.overflow_add-result
 overflow_add-result c =
-    let m = (parts_of c.args.call).mark in
-    omega (arith, size_of c.before.before.before, ltb-true (form_of m).size 256 (lawful m).short, c.readings_behind.ensures)
+    let k = c.args.call in
+    let m = (parts_of k).mark in
+    omega (arith, size_of k c.fields_of-fields.ensures, ltb-true (form_of m).size 256 (lawful m).short, c.readings_behind.ensures)
 
 pub returns : goal.returns
 returns c =
-    let r : c.readings_behind.result ≡ readings_size c.args.call =
-    c.readings_behind.ensures.0 ∙ readings_by_fields c.args.call c.fields_of-fields.result c.fields_of-fields.ensures in
-    omega (arith, size_of c.before.before.before, r)
+    let k = c.args.call in
+    let f = c.fields_of-fields in
+    let r : c.readings_behind.result ≡ readings_size k =
+    c.readings_behind.ensures.0 ∙ readings_by_fields k f.result f.ensures in
+    omega (arith, size_of k f.ensures, r)
