@@ -11,6 +11,7 @@ pub use buffers::share_divide;
 use quantities::{GREATEST_TOTAL, MOST_WEIGHTS};
 
 // The number that a division into `room` amounts meets: 3, 13, 15 or 0.
+#[tactic(auto, unfolding(crate::specs::Division::division_number))]
 pub fn division_number(total: u64, weights: &[u64], room: usize) -> u32
     ensures { result ≡ division_number total weights.now room }
 {
