@@ -5,6 +5,7 @@ use Rattle.basis.specs.Tables.{tab}
 use Rattle.basis.proofs.Tables.{tab_of}
 use Rattle.quantities.specs.Limits.{consumers}
 use Rattle.basis.proofs.Filling.{Filling, starts, next, ends}
+use borrow.Author.Rules.{rules}
 use Rattle.fix.proofs.demands.narrow.Goals as goal
 
 pub loop-i-init : goal.loop-i-init
@@ -23,5 +24,5 @@ returns c =
     let a = c.args in
     let l = c.loop-i in
     ends _ consumers l.figures l.i c.loop-i-test.false l.invariant
-    ∙ ap (λ n. tab (λ k. get_or a.values k 0) n) (sym c.before.before.well-formed.0.1.0.1)
+    ∙ ap (λ n. tab (λ k. get_or a.values k 0) n) (sym (search rules))
     ∙ tab_of a.values 0

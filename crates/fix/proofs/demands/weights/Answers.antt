@@ -5,6 +5,7 @@ use Rattle.quantities.specs.Limits.{consumers}
 use Rattle.state.specs.State.{fresh_consumer}
 use Rattle.fix.specs.Fix.{declared_by, weights_of}
 use Rattle.basis.proofs.Filling.{Filling, starts, next, ends, tab-map}
+use borrow.Author.Rules.{rules}
 use Rattle.fix.proofs.demands.weights.Goals as goal
 
 pub loop-i-init : goal.loop-i-init
@@ -21,4 +22,4 @@ returns c =
     let a = c.args in
     let l = c.loop-i in
     ends _ consumers l.weights l.i c.loop-i-test.false l.invariant
-    ∙ tab-map (λ x. declared_by x.declaration) a.consumers fresh_consumer consumers c.before.before.well-formed.0.1.0.1
+    ∙ tab-map (λ x. declared_by x.declaration) a.consumers fresh_consumer consumers (search rules)

@@ -4,10 +4,11 @@ use Rattle.quantities.specs.Limits.{consumers}
 use Rattle.state.specs.State.{fresh_consumer}
 use Rattle.fix.specs.Fix.{with_demand, with_demands}
 use Rattle.basis.proofs.Filling.{Filling, starts, next, ends}
+use borrow.Author.Rules.{rules}
 use Rattle.fix.proofs.demands.with_demands.Goals as goal
 
 pub loop-i-init : goal.loop-i-init
-loop-i-init c = starts _ consumers _ c.well-formed.1.0.1.0.1
+loop-i-init c = starts _ consumers _ (search rules)
 
 pub loop-i-preserved : goal.loop-i-preserved
 loop-i-preserved c =

@@ -6,41 +6,25 @@ use native.Mathlib.Omega.{arith}
 use lib.ListN.{length}
 use Rattle.share.specs.Division.{division_number, shares}
 use Rattle.quantities.specs.Limits.{consumers}
-use Rattle.fix.specs.Fix.{weights_of}
+use Rattle.state.specs.declared.kept.Consumer.{Consumer}
+use Rattle.fix.specs.Fix.{weights_of, fix_rest}
+use borrow.Author.Rules.{rules}
 use Rattle.fix.proofs.DivisionLaws.{accepted, each}
 use Rattle.fix.proofs.fixing.divided.Goals as goal
-use Rattle.fix.proofs.fixing.divided.Goals.{After-divide}
 
 -- the division, of as many weights as there are consumers
-module _ (c : After-divide) where
-  abbrev start : goal.Start
-  start = c.before.before.before.before
-
-  abbrev dmp : ℕ
-  dmp = start.args.dmp
-
-  abbrev weights : List ℕ
-  weights = c.weights-weights.result
-
-  abbrev amounts : List ℕ
-  amounts = c.divide.new.1.1.0
-
-  full : length weights ≡ consumers
-  full = c.weights-weights.type-inv.1.0.1
-
-  number : c.divide.result ≡ division_number dmp (weights_of start.args.consumers) consumers
-  number = c.divide.ensures.answer ∙ ap (λ ws. division_number dmp ws consumers) c.weights-weights.ensures
-
-  none_met : c.divide.result ≡ 0
-  none_met = number ∙ start.pre
+none_met : (dmp number : ℕ) (xs : List Consumer) (ws : List ℕ) → number ≡ division_number dmp ws consumers → ws ≡ weights_of xs → fix_rest dmp xs ≡ 0 → number ≡ 0
+none_met dmp number xs ws a e z = a ∙ ap (λ l. division_number dmp l consumers) e ∙ z
 
 pub narrow-requires : goal.narrow-requires
-narrow-requires c =
-    let h = each (dmp c) (weights c) (amounts c) c.divide.result (full c) c.divide.ensures (none_met c) k in
+narrow-requires c k =
+    let d = none_met c.args.dmp c.divide.result c.args.consumers c.weights-weights.result c.divide.ensures.answer c.weights-weights.ensures c.requires in
+    let h = each c.args.dmp c.weights-weights.result c.divide.new.amounts c.divide.result (search rules) c.divide.ensures d k in
     omega arith
 
 pub returns : goal.returns
 returns c =
+    let d = none_met c.args.dmp c.divide.result c.args.consumers c.weights-weights.result c.divide.ensures.answer c.weights-weights.ensures c.requires in
     c.narrow.ensures
-    ∙ accepted (dmp c) (weights c) (amounts c) c.divide.result (full c) c.divide.ensures (none_met c)
-    ∙ ap (λ ws. shares (dmp c) ws) c.weights-weights.ensures
+    ∙ accepted c.args.dmp c.weights-weights.result c.divide.new.amounts c.divide.result (search rules) c.divide.ensures d
+    ∙ ap (λ ws. shares c.args.dmp ws) c.weights-weights.ensures

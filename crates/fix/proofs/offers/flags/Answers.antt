@@ -5,6 +5,7 @@ use Rattle.quantities.specs.Limits.{units}
 use Rattle.state.specs.State.{fresh_unit}
 use Rattle.fix.specs.Fix.{flags_by, flags_of}
 use Rattle.basis.proofs.Filling.{Filling, starts, next, ends, tab-map}
+use borrow.Author.Rules.{rules}
 use Rattle.fix.proofs.offers.flags.Goals as goal
 
 pub loop-i-init : goal.loop-i-init
@@ -21,4 +22,4 @@ returns c =
     let a = c.args in
     let l = c.loop-i in
     ends _ units l.flags l.i c.loop-i-test.false l.invariant
-    ∙ tab-map (λ u. flags_by u.enrolment) a.units fresh_unit units c.before.before.well-formed.0.1.0.1
+    ∙ tab-map (λ u. flags_by u.enrolment) a.units fresh_unit units (search rules)

@@ -5,6 +5,7 @@ use Rattle.quantities.specs.Limits.{units}
 use Rattle.state.specs.State.{fresh_unit}
 use Rattle.fix.specs.Fix.{offer_by, offers_of}
 use Rattle.basis.proofs.Filling.{Filling, starts, next, ends, tab-map}
+use borrow.Author.Rules.{rules}
 use Rattle.fix.proofs.offers.offers.Goals as goal
 
 pub loop-i-init : goal.loop-i-init
@@ -20,4 +21,4 @@ unfolding offers_of
 returns c =
     let a = c.args in
     let l = c.loop-i in
-    ends _ units l.offers l.i c.loop-i-test.false l.invariant ∙ tab-map (λ u. offer_by a.hours u u.enrolment) a.units fresh_unit units c.before.before.well-formed.1.0.1.0.1
+    ends _ units l.offers l.i c.loop-i-test.false l.invariant ∙ tab-map (λ u. offer_by a.hours u u.enrolment) a.units fresh_unit units (search rules)
