@@ -13,35 +13,17 @@ loop-i-init c =
     let a = c.args in
     (omega arith, refl, puts_joined_none (demand_line_at a.consumers) a.out.now a.at)
 
-pub offset_bounds-consumers-i : goal.offset_bounds-consumers-i
-offset_bounds-consumers-i c = omega arith
-
-pub bounds-consumers-i : goal.bounds-consumers-i
-bounds-consumers-i c = omega arith
-
-pub overflow_add-i : goal.overflow_add-i
-overflow_add-i c = omega arith
-
 pub put_demand-place-requires : goal.put_demand-place-requires
 put_demand-place-requires c = omega (arith, c.loop-i.invariant.2.next, c.loop-i.invariant.2.short)
-
-pub overflow_add-i-in-loop-i : goal.overflow_add-i-in-loop-i
-overflow_add-i-in-loop-i c = omega arith
-
-pub loop-i-smaller : goal.loop-i-smaller
-loop-i-smaller c = omega arith
 
 pub loop-i-preserved : goal.loop-i-preserved
 loop-i-preserved c =
     let l = c.loop-i in
     let a = c.args in (
       omega arith,
-      omega (arith, c.put_demand-place.auto.0),
+      omega (arith, c.put_demand-place.auto.out),
       puts_joined (demand_line_at a.consumers) l.i (omega arith) l.invariant.2 c.put_demand-place.ensures,
     )
-
-pub shape_of-out : goal.shape_of-out
-shape_of-out c = omega arith
 
 pub returns : goal.returns
 unfolding demand_lines

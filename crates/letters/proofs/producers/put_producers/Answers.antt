@@ -13,42 +13,14 @@ use Rattle.text.proofs.Joining.{puts_joined_none, puts_joined}
 use Rattle.letters.specs.Letters.{owns, producer_line, producer_line_at, producer_lines}
 use Rattle.letters.proofs.Owners.{balance_at}
 use Rattle.letters.proofs.producers.put_producers.Goals as goal
-use Rattle.letters.proofs.producers.put_producers.Goals.{Start}
-
-owner_count : (c : Start) → length c.args.owners ≡ units
-owner_count c = search rules
 
 pub loop-i-init : goal.loop-i-init
 loop-i-init c =
     let a = c.args in
     (omega arith, refl, puts_joined_none (producer_line_at a.owners a.limits a.balances) a.out.now a.at)
 
-pub overflow_cast-producer : goal.overflow_cast-producer
-overflow_cast-producer c = omega arith
-
-pub overflow_add-producer : goal.overflow_add-producer
-overflow_add-producer c = omega arith
-
-pub slice_bounds-has_unit-end : goal.slice_bounds-has_unit-end
-slice_bounds-has_unit-end c = sym (owner_count c.before.before.before.before)
-
-pub overflow_add-i : goal.overflow_add-i
-overflow_add-i c = omega arith
-
-pub offset_bounds-limits-i : goal.offset_bounds-limits-i
-offset_bounds-limits-i c = omega arith
-
-pub bounds-limits-i : goal.bounds-limits-i
-bounds-limits-i c = omega arith
-
 pub put_producer-place-requires : goal.put_producer-place-requires
 put_producer-place-requires c = omega (arith, c.loop-i.invariant.2.next, c.loop-i.invariant.2.short)
-
-pub overflow_add-i-in-loop-i : goal.overflow_add-i-in-loop-i
-overflow_add-i-in-loop-i c = omega arith
-
-pub loop-i-smaller : goal.loop-i-smaller
-loop-i-smaller c = omega arith
 
 pub loop-i-preserved : goal.loop-i-preserved
 loop-i-preserved c =
@@ -59,13 +31,10 @@ loop-i-preserved c =
     let e : h.result ≡ owns a.owners (l.i + 1) = h.ensures in
     let s : p.result ≡ sum (row_of a.balances (l.i + 1)) = p.ensures ∙ balance_at a.balances l.i (omega arith) in (
       omega arith,
-      omega (arith, c.put_producer-place.auto.0),
+      omega (arith, c.put_producer-place.auto.out),
       puts_joined (producer_line_at a.owners a.limits a.balances) l.i (omega arith) l.invariant.2
           (puts_as (ap (λ (t : Bool). producer_line (l.i + 1) t (get_or a.limits l.i 0) p.result) e ∙ ap (λ n. producer_line (l.i + 1) (owns a.owners (l.i + 1)) (get_or a.limits l.i 0) n) s) c.put_producer-place.ensures),
     )
-
-pub shape_of-out : goal.shape_of-out
-shape_of-out c = omega arith
 
 pub returns : goal.returns
 unfolding producer_lines

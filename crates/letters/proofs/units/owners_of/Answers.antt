@@ -9,23 +9,8 @@ use Rattle.letters.proofs.units.owners_of.Goals as goal
 pub loop-i-init : goal.loop-i-init
 loop-i-init c = starts (owner_at c.args.units) units _ refl
 
-pub offset_bounds-units-i : goal.offset_bounds-units-i
-offset_bounds-units-i c = omega arith
-
-pub bounds-units-i : goal.bounds-units-i
-bounds-units-i c = omega arith
-
-pub offset_bounds-owners-i : goal.offset_bounds-owners-i
-offset_bounds-owners-i c = omega arith
-
 pub bounds-owners-i : goal.bounds-owners-i
 bounds-owners-i c = omega (arith, c.loop-i.invariant.whole)
-
-pub overflow_add-i : goal.overflow_add-i
-overflow_add-i c = omega arith
-
-pub loop-i-smaller : goal.loop-i-smaller
-loop-i-smaller c = omega arith
 
 pub loop-i-preserved : goal.loop-i-preserved
 loop-i-preserved c =

@@ -13,47 +13,17 @@ loop-i-init c =
     let a = c.args in
     (omega arith, refl, puts_joined_none (unit_line_at a.units a.offers a.efficient) a.out.now a.at)
 
-pub offset_bounds-units-i : goal.offset_bounds-units-i
-offset_bounds-units-i c = omega arith
-
-pub bounds-units-i : goal.bounds-units-i
-bounds-units-i c = omega arith
-
-pub overflow_add-i : goal.overflow_add-i
-overflow_add-i c = omega arith
-
-pub offset_bounds-offers-i : goal.offset_bounds-offers-i
-offset_bounds-offers-i c = omega arith
-
-pub bounds-offers-i : goal.bounds-offers-i
-bounds-offers-i c = omega arith
-
-pub offset_bounds-efficient-i : goal.offset_bounds-efficient-i
-offset_bounds-efficient-i c = omega arith
-
-pub bounds-efficient-i : goal.bounds-efficient-i
-bounds-efficient-i c = omega arith
-
 pub put_unit-place-requires : goal.put_unit-place-requires
 put_unit-place-requires c = omega (arith, c.loop-i.invariant.2.next, c.loop-i.invariant.2.short)
-
-pub overflow_add-i-in-loop-i : goal.overflow_add-i-in-loop-i
-overflow_add-i-in-loop-i c = omega arith
-
-pub loop-i-smaller : goal.loop-i-smaller
-loop-i-smaller c = omega arith
 
 pub loop-i-preserved : goal.loop-i-preserved
 loop-i-preserved c =
     let l = c.loop-i in
     let a = c.args in (
       omega arith,
-      omega (arith, c.put_unit-place.auto.0),
+      omega (arith, c.put_unit-place.auto.out),
       puts_joined (unit_line_at a.units a.offers a.efficient) l.i (omega arith) l.invariant.2 c.put_unit-place.ensures,
     )
-
-pub shape_of-out : goal.shape_of-out
-shape_of-out c = omega arith
 
 pub returns : goal.returns
 unfolding unit_lines
