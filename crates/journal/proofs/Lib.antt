@@ -8,3 +8,4 @@ pub mod Earliest
 pub mod Stops
 pub mod Ready
 pub mod Underway
+pub mod Arms
