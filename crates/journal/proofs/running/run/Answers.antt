@@ -189,7 +189,7 @@ unfolding step_of
 loop-call-preserved-else-number-ne0-2 c =
     record {
       under = turn c.loop-call.invariant.under c.read_at-read.ensures c.in-Record.is c.fix-reply.result.number c.counted-tally-else-number-ne0-2.ensures c.in-Fix.is (sym c.fix-reply.ensures);
-      ready = record { count = ?; total_right = λ s. c.total_declared-total.ensures; reals_right = λ s. c.real_demands-reals.ensures };
+      ready = record { count = omega arith; total_right = λ s. c.total_declared-total.ensures; reals_right = λ s. c.real_demands-reals.ensures };
     }
 
 pub slice_bounds-close_number-end : goal.slice_bounds-close_number-end
