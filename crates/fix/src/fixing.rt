@@ -50,6 +50,7 @@ fn divided(dmp: u32, consumers: [Consumer; CONSUMERS]) -> [u32; CONSUMERS]
 }
 
 // The number of a fix: 3, 4, 13, or 0. Nothing is changed.
+#[tactic(auto, unfolding(crate::specs::Fix::fix_number_by))]
 pub fn fix_number(stage: Stage, consumers: [Consumer; CONSUMERS], dmp: u32) -> u32
     ensures { result ≡ fix_number_by stage consumers dmp }
 {

@@ -1,10 +1,9 @@
 use mathlib.Core.Path.{refl, sym, ap, ◌∙◌}
-use Prim.Native.Nat.{◌-◌}
 use lib.ListN.{get_or}
 use Rattle.basis.specs.Tables.{tab}
 use Rattle.basis.proofs.Tables.{tab_of}
 use Rattle.quantities.specs.Limits.{consumers}
-use Rattle.basis.proofs.Filling.{Filling, starts, next, ends}
+use Rattle.basis.proofs.Filling.{starts, next, ends}
 use borrow.Author.Rules.{rules}
 use Rattle.fix.proofs.demands.narrow.Goals as goal
 

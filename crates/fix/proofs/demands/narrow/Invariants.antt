@@ -2,7 +2,7 @@
 use Prim.Native.Nat.{◌-◌}
 use lib.ListN.{get_or}
 use Rattle.quantities.specs.Limits.{consumers}
-use Rattle.basis.proofs.Filling.{Filling, starts, next, ends}
+use Rattle.basis.proofs.Filling.{Filling}
 use Rattle.fix.proofs.demands.narrow.Given as goal
 
 abbrev pub invariant-loop-i : goal.invariant-loop-i

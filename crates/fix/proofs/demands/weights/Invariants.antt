@@ -3,8 +3,8 @@ use Prim.Native.Nat.{◌-◌}
 use lib.ListN.{get_or}
 use Rattle.quantities.specs.Limits.{consumers}
 use Rattle.state.specs.State.{fresh_consumer}
-use Rattle.fix.specs.Fix.{declared_by, weights_of}
-use Rattle.basis.proofs.Filling.{Filling, starts, next, ends, tab-map}
+use Rattle.fix.specs.Fix.{declared_by}
+use Rattle.basis.proofs.Filling.{Filling}
 use Rattle.fix.proofs.demands.weights.Given as goal
 
 abbrev pub invariant-loop-i : goal.invariant-loop-i

@@ -1,9 +1,6 @@
-use Prim.Native.Nat.{◌-◌}
-use lib.ListN.{get_or}
 use Rattle.quantities.specs.Limits.{consumers}
-use Rattle.state.specs.State.{fresh_consumer}
-use Rattle.fix.specs.Fix.{with_demand, with_demands}
-use Rattle.basis.proofs.Filling.{Filling, starts, next, ends}
+use Rattle.fix.specs.Fix.{with_demands}
+use Rattle.basis.proofs.Filling.{starts, next, ends}
 use borrow.Author.Rules.{rules}
 use Rattle.fix.proofs.demands.with_demands.Goals as goal
 

@@ -3,8 +3,8 @@ use Prim.Native.Nat.{◌-◌}
 use lib.ListN.{get_or}
 use Rattle.quantities.specs.Limits.{consumers}
 use Rattle.state.specs.State.{fresh_consumer}
-use Rattle.fix.specs.Fix.{with_demand, with_demands}
-use Rattle.basis.proofs.Filling.{Filling, starts, next, ends}
+use Rattle.fix.specs.Fix.{with_demand}
+use Rattle.basis.proofs.Filling.{Filling}
 use Rattle.fix.proofs.demands.with_demands.Given as goal
 
 abbrev pub invariant-loop-i : goal.invariant-loop-i

@@ -3,7 +3,6 @@ use mathlib.Core.Path.{◌≡◌, ap, ◌∙◌}
 use mathlib.Core.List.{List}
 use Prim.Native.Nat.{ℕ}
 use native.Mathlib.Omega.{arith}
-use lib.ListN.{length}
 use Rattle.share.specs.Division.{division_number, shares}
 use Rattle.quantities.specs.Limits.{consumers}
 use Rattle.state.specs.declared.kept.Consumer.{Consumer}

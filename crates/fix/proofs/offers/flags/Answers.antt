@@ -1,10 +1,8 @@
 use mathlib.Core.Path.{refl, ◌∙◌}
-use Prim.Native.Nat.{◌-◌}
-use lib.ListN.{get_or}
 use Rattle.quantities.specs.Limits.{units}
 use Rattle.state.specs.State.{fresh_unit}
 use Rattle.fix.specs.Fix.{flags_by, flags_of}
-use Rattle.basis.proofs.Filling.{Filling, starts, next, ends, tab-map}
+use Rattle.basis.proofs.Filling.{starts, next, ends, tab-map}
 use borrow.Author.Rules.{rules}
 use Rattle.fix.proofs.offers.flags.Goals as goal
 

@@ -3,8 +3,8 @@ use Prim.Native.Nat.{◌-◌}
 use lib.ListN.{get_or}
 use Rattle.quantities.specs.Limits.{units}
 use Rattle.state.specs.State.{fresh_unit}
-use Rattle.fix.specs.Fix.{flags_by, flags_of}
-use Rattle.basis.proofs.Filling.{Filling, starts, next, ends, tab-map}
+use Rattle.fix.specs.Fix.{flags_by}
+use Rattle.basis.proofs.Filling.{Filling}
 use Rattle.fix.proofs.offers.flags.Given as goal
 
 abbrev pub invariant-loop-i : goal.invariant-loop-i

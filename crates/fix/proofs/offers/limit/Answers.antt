@@ -1,5 +1,4 @@
 use mathlib.Core.Path.{◌≡◌, sym, ap, ◌∙◌}
-use Prim.Native.Nat.{◌-◌, ◌*◌, ◌≤◌}
 use native.Mathlib.Omega.{arith}
 use Rattle.basis.specs.Sums.{sum_up}
 use Rattle.basis.proofs.Sums.{sum_up-zero, sum_up_more}

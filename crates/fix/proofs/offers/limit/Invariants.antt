@@ -1,9 +1,9 @@
 -- `fix::limit` meets its contract. The invariant: the sum so far is that of the units passed. Assumes nothing.
-use mathlib.Core.Path.{◌≡◌, sym, ap, ◌∙◌}
+use mathlib.Core.Path.{◌≡◌}
 use Prim.Native.Nat.{◌-◌, ◌*◌, ◌≤◌}
 use Rattle.basis.specs.Sums.{sum_up}
 use Rattle.quantities.specs.Limits.{units}
-use Rattle.fix.proofs.FixLaws.{added_at, limit_held, limit_whole}
+use Rattle.fix.proofs.FixLaws.{added_at}
 use Rattle.fix.proofs.offers.limit.Given as goal
 
 abbrev pub invariant-loop-i : goal.invariant-loop-i

@@ -1,9 +1,8 @@
 use mathlib.Core.Path.{refl, ap, ◌∙◌}
-use Prim.Native.Nat.{suc, ◌-◌}
 use native.Mathlib.Numerals.{add-one}
 use Rattle.quantities.specs.Limits.{producers}
 use Rattle.fix.specs.Fix.{limit_of, limits_of}
-use Rattle.basis.proofs.Filling.{Filling, starts, next, ends}
+use Rattle.basis.proofs.Filling.{starts, next, ends}
 use Rattle.fix.proofs.offers.limits.Goals as goal
 
 pub loop-i-init : goal.loop-i-init

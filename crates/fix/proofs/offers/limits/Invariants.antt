@@ -1,8 +1,8 @@
 -- `fix::limits` meets its contract. The invariant: the producers passed have their limits. Assumes nothing.
 use Prim.Native.Nat.{suc, ◌-◌}
 use Rattle.quantities.specs.Limits.{producers}
-use Rattle.fix.specs.Fix.{limit_of, limits_of}
-use Rattle.basis.proofs.Filling.{Filling, starts, next, ends}
+use Rattle.fix.specs.Fix.{limit_of}
+use Rattle.basis.proofs.Filling.{Filling}
 use Rattle.fix.proofs.offers.limits.Given as goal
 
 abbrev pub invariant-loop-i : goal.invariant-loop-i
