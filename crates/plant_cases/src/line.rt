@@ -1,6 +1,9 @@
 // A line of decimal numbers with one blank between, read and written.
 ghost use Rattle.std.specs.Prelude.{◌≤◌, ◌<◌, length};
 
+use std::io;
+use std::io::Write;
+
 // The most numbers of a line: a test with its greatest count and one more.
 pub const MOST: usize = 112;
 
@@ -72,7 +75,7 @@ pub fn line_of(s: &[u8]) -> Line {
 }
 
 // Writes a number, and what follows it.
-pub fn write(x: u32, after: &[u8]) {
-    io::print_decimal(1, x as u64);
-    io::write_all(1, after);
+pub fn write<W: Write>(out: &mut W, x: u32, after: &[u8]) -> io::Result<()> {
+    write!(out, "{x}")?;
+    out.write_all(after)
 }

@@ -14,6 +14,11 @@ mod line; // line.rt: lines of decimal numbers
 use line::{Line, MOST, line_end, line_of, write};
 use plant::{Cap, Component, Hours, Kw, Kwh, Measured, Plant};
 use quantities::UNITS;
+use std::io;
+use std::io::{BufWriter, Read, Write};
+
+// The most bytes that are read.
+const MOST_INPUT: u64 = 65536;
 
 // The readings of a test line: the place of the first, the most of them, and their bytes.
 const FIRST: usize = 6;
@@ -108,47 +113,47 @@ fn readings_of(values: [u32; MOST]) -> [u8; BYTES]
 }
 
 // Writes whether a component has a result, its maximum power and the memory.
-fn write_component(x: Component) {
+fn write_component<W: Write>(out: &mut W, x: Component) -> io::Result<()> {
     let result = x.result;
     match result {
-        Measured::Nothing => write(0, b" "),
-        Measured::Power(_) => write(1, b" "),
+        Measured::Nothing => write(out, 0, b" ")?,
+        Measured::Power(_) => write(out, 1, b" ")?,
     }
-    write(plant::maximum_power(x).0, b"");
+    write(out, plant::maximum_power(x).0, b"")?;
     if x.void_trip {
-        io::write_all(1, b" 1\n");
+        out.write_all(b" 1\n")
     } else {
-        io::write_all(1, b" 0\n");
+        out.write_all(b" 0\n")
     }
 }
 
 // Line 1.
-fn test(unit: Unit, values: [u32; MOST]) -> Unit {
+fn test<W: Write>(out: &mut W, unit: Unit, values: [u32; MOST]) -> io::Result<Unit> {
     let length = values[5] as usize;
     if BYTES < length {
-        return unit;
+        return Ok(unit);
     }
     let bytes = readings_of(values);
     let cap = unit.cap;
     let old = component_of(unit, values[1]);
     let answer = plant::test(old, cap, values[2], values[3], values[4], &bytes[..length]);
     let after = answer.component;
-    write(answer.number, b" ");
-    write_component(after);
-    with_component(unit, values[1], after)
+    write(out, answer.number, b" ")?;
+    write_component(out, after)?;
+    Ok(with_component(unit, values[1], after))
 }
 
 // Line 2.
-fn availability(unit: Unit, values: [u32; MOST]) -> Unit {
+fn availability<W: Write>(out: &mut W, unit: Unit, values: [u32; MOST]) -> io::Result<Unit> {
     let old = component_of(unit, values[1]);
     let answer = plant::set_availability(old, values[2], values[3], values[4], values[5]);
     let after = answer.component;
-    write(answer.number, b"\n");
-    with_component(unit, values[1], after)
+    write(out, answer.number, b"\n")?;
+    Ok(with_component(unit, values[1], after))
 }
 
 // Line 3.
-fn offer(unit: Unit, values: [u32; MOST]) {
+fn offer<W: Write>(out: &mut W, unit: Unit, values: [u32; MOST]) -> io::Result<()> {
     let of = Plant {
         kind: values[1],
         report: values[2] != 0,
@@ -166,9 +171,10 @@ fn offer(unit: Unit, values: [u32; MOST]) {
     let generator = unit.generator;
     let storage = unit.storage;
     write(
+        out,
         plant::firm_offer(of, hours, set, generator, storage).0,
         b"\n",
-    );
+    )
 }
 
 // Every other number of a line, from the one at `from` on.
@@ -185,59 +191,63 @@ fn every_other(values: [u32; MOST], from: usize) -> [u32; UNITS]
 }
 
 // Writes so many offers, each behind a blank.
-fn write_offers(offers: [u32; UNITS], count: usize) {
+fn write_offers<W: Write>(out: &mut W, offers: [u32; UNITS], count: usize) -> io::Result<()> {
     let mut i = 0;
     while i < UNITS {
         if count <= i {
-            return;
+            return Ok(());
         }
-        io::write_all(1, b" ");
-        write(offers[i], b"");
+        out.write_all(b" ")?;
+        write(out, offers[i], b"")?;
         i += 1;
     }
+    Ok(())
 }
 
 // Line 4.
-fn efficient(values: [u32; MOST], count: usize) {
+fn efficient<W: Write>(out: &mut W, values: [u32; MOST], count: usize) -> io::Result<()> {
     let answer = plant::efficient_offers(every_other(values, 1), every_other(values, 2));
     let offers = answer.offers;
-    write(answer.year, b"");
-    write_offers(offers, count / 2);
-    io::write_all(1, b"\n");
+    write(out, answer.year, b"")?;
+    write_offers(out, offers, count / 2)?;
+    out.write_all(b"\n")
 }
 
 // A line's answer is written, and the unit after it returned.
-fn step(unit: Unit, line: Line) -> Unit {
+fn step<W: Write>(out: &mut W, unit: Unit, line: Line) -> io::Result<Unit> {
     let values = line.values;
     let op = values[0];
     match op {
-        0 => fresh_unit(values[1], values[2]),
-        1 => test(unit, values),
-        2 => availability(unit, values),
+        0 => Ok(fresh_unit(values[1], values[2])),
+        1 => test(out, unit, values),
+        2 => availability(out, unit, values),
         3 => {
-            offer(unit, values);
-            unit
+            offer(out, unit, values)?;
+            Ok(unit)
         }
         _ => {
-            efficient(values, line.count);
-            unit
+            efficient(out, values, line.count)?;
+            Ok(unit)
         }
     }
 }
 
 // All lines, one after the other.
-fn run(s: &[u8]) {
+fn run<W: Write>(out: &mut W, s: &[u8]) -> io::Result<()> {
     let mut unit = fresh_unit(0, 0);
     let mut at = 0;
     while at < s.len() {
         let end = line_end(s, at);
-        unit = step(unit, line_of(&s[at..end]));
+        unit = step(out, unit, line_of(&s[at..end]))?;
         at = end;
     }
+    Ok(())
 }
 
-fn main() {
-    let mut input = io::large_buffer();
-    let n = io::read_full(0, &mut input);
-    run(&input[..n]);
+fn main(rt: HostRuntime) -> io::Result<()> {
+    let mut input = Vec::new(rt.alloc());
+    rt.stdin().take(MOST_INPUT).read_to_end(&mut input)?;
+    let mut out = BufWriter::new(rt.alloc(), rt.stdout())?;
+    run(&mut out, &input)?;
+    out.flush()
 }
