@@ -2,8 +2,8 @@
 use Rattle.std.proofs.Common.{◌≤◌}
 use Rattle.yearbook.proofs.output.print_replies.Given as goal
 
-abbrev pub invariant-loop-rest-left : goal.invariant-loop-rest-left
-invariant-loop-rest-left l = 0 ≤ l.rest.left
+abbrev pub invariant-loop-rest : goal.invariant-loop-rest
+invariant-loop-rest l = 0 ≤ l.rest.left
 
-abbrev pub decreases-loop-rest-left : goal.decreases-loop-rest-left
-decreases-loop-rest-left l = l.rest.left
+abbrev pub decreases-loop-rest : goal.decreases-loop-rest
+decreases-loop-rest l = l.rest.left
