@@ -63,6 +63,7 @@ fn closed(book: Book, p: u32) -> Book
 }
 
 // The number of a close, from ΣD and the real demand of each consumer: 3, 4, 14, or 0. Nothing is changed.
+#[tactic(auto, unfolding(crate::specs::Close::close_number_from))]
 pub fn close_number(stage: Stage, dmp: u32, total: u64, reals: &[u32], p: u32) -> u32
     ensures { result ≡ close_number_from stage dmp total reals.now p }
 {

@@ -1,10 +1,10 @@
 -- `close::adjusted::adjusted` meets its contract. The invariant: the consumers passed have their DFA. Assumes nothing.
 use Prim.Native.Nat.{◌-◌, ◌*◌, ◌/◌}
 use lib.ListN.{get_or}
-use Rattle.quantities.specs.Limits.{greatest_power, consumers}
+use Rattle.quantities.specs.Limits.{consumers}
 use Rattle.state.specs.State.{fresh_consumer}
-use Rattle.close.specs.Close.{real_demand, adjusted_of, adjusted_in}
-use Rattle.basis.proofs.Filling.{Filling, starts, next, ends, tab-map}
+use Rattle.close.specs.Close.{real_demand}
+use Rattle.basis.proofs.Filling.{Filling}
 use Rattle.close.proofs.adjusted.adjusted.Given as goal
 
 abbrev pub invariant-loop-i : goal.invariant-loop-i

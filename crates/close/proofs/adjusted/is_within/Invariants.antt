@@ -1,7 +1,7 @@
 -- `close::adjusted::is_within` meets its contract. The invariant: no DFA passed is above the greatest. Assumes nothing.
 use mathlib.Core.List.{map}
 use Prim.Native.Nat.{ℕ, ◌-◌, ◌*◌, ◌/◌, ◌≤◌, ◌<◌}
-use lib.ListN.{length, get_or, length-map}
+use lib.ListN.{length, get_or}
 use Rattle.quantities.specs.Limits.{greatest_power}
 use Rattle.close.proofs.adjusted.is_within.Given as goal
 

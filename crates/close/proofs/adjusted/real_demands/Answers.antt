@@ -1,10 +1,9 @@
 use mathlib.Core.Path.{refl, ◌∙◌}
-use Prim.Native.Nat.{◌-◌}
-use lib.ListN.{get_or}
 use Rattle.quantities.specs.Limits.{consumers}
 use Rattle.state.specs.State.{fresh_consumer}
 use Rattle.close.specs.Close.{real_demand, reals_of}
-use Rattle.basis.proofs.Filling.{Filling, starts, next, ends, tab-map}
+use Rattle.basis.proofs.Filling.{starts, next, ends, tab-map}
+use borrow.Author.Rules.{rules}
 use Rattle.close.proofs.adjusted.real_demands.Goals as goal
 
 pub loop-i-preserved : goal.loop-i-preserved
@@ -18,7 +17,7 @@ returns c =
     let a = c.args in
     let l = c.loop-i in
     ends _ consumers l.reals l.i c.loop-i-test.false l.invariant
-    ∙ tab-map real_demand a.consumers fresh_consumer consumers c.before.before.well-formed.0.1.0.1
+    ∙ tab-map real_demand a.consumers fresh_consumer consumers (search rules)
 
 pub loop-i-init : goal.loop-i-init
 loop-i-init c = starts _ consumers _ refl

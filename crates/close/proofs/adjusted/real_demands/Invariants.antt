@@ -3,8 +3,8 @@ use Prim.Native.Nat.{◌-◌}
 use lib.ListN.{get_or}
 use Rattle.quantities.specs.Limits.{consumers}
 use Rattle.state.specs.State.{fresh_consumer}
-use Rattle.close.specs.Close.{real_demand, reals_of}
-use Rattle.basis.proofs.Filling.{Filling, starts, next, ends, tab-map}
+use Rattle.close.specs.Close.{real_demand}
+use Rattle.basis.proofs.Filling.{Filling}
 use Rattle.close.proofs.adjusted.real_demands.Given as goal
 
 abbrev pub invariant-loop-i : goal.invariant-loop-i

@@ -1,20 +1,15 @@
+use Rattle.close.proofs.adjusted.total_declared.Invariants.{declared_at}
 use mathlib.Core.Path.{◌≡◌, sym, ap, ◌∙◌}
-use Prim.Native.Nat.{ℕ, ◌-◌, ◌*◌, ◌≤◌}
 use native.Mathlib.Omega.{arith}
-use mathlib.Core.List.{List}
-use lib.ListN.{get_or}
 use Rattle.basis.specs.Sums.{sum, sum_up}
 use Rattle.basis.proofs.Sums.{sum_up-zero, sum_up_more}
 use Rattle.basis.proofs.Tables.{sum-tab}
 use Rattle.quantities.specs.Limits.{consumers}
-use Rattle.state.specs.declared.kept.Consumer.{Consumer}
 use Rattle.state.specs.State.{fresh_consumer}
 use Rattle.fix.specs.Fix.{declared_by, weights_of}
 use Rattle.basis.proofs.Filling.{tab-map}
+use borrow.Author.Rules.{rules}
 use Rattle.close.proofs.adjusted.total_declared.Goals as goal
-
-abbrev declared_at : List Consumer → ℕ → ℕ
-declared_at xs k = declared_by (get_or xs k fresh_consumer).declaration
 
 pub loop-i-init : goal.loop-i-init
 loop-i-init c = (omega arith, sym (sum_up-zero _), omega arith)
@@ -33,4 +28,4 @@ returns c =
     l.invariant.1
     ∙ ap (λ n. sum_up (declared_at c.args.consumers) n) e
     ∙ sym (sum-tab (declared_at c.args.consumers) consumers)
-    ∙ ap sum (tab-map (λ x. declared_by x.declaration) c.args.consumers fresh_consumer consumers c.well-formed.0.1.0.1)
+    ∙ ap sum (tab-map (λ x. declared_by x.declaration) c.args.consumers fresh_consumer consumers (search rules))

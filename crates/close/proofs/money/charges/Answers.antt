@@ -1,11 +1,7 @@
 use mathlib.Core.Path.{refl}
-use Prim.Native.Nat.{◌-◌}
-use lib.ListN.{get_or}
 use Rattle.basis.proofs.Sums.{all_at_most_lem}
 use Rattle.quantities.specs.Limits.{greatest_power, consumers}
-use Rattle.state.specs.State.{fresh_consumer}
-use Rattle.close.specs.Close.{charge_by}
-use Rattle.basis.proofs.Filling.{Filling, starts, next, ends}
+use Rattle.basis.proofs.Filling.{starts, next, ends}
 use Rattle.close.proofs.money.charges.Goals as goal
 
 pub loop-i-init : goal.loop-i-init

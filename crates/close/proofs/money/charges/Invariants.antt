@@ -1,10 +1,10 @@
 -- `close::charges` meets its contract. The invariant: the consumers passed have their charges. Assumes nothing.
 use Prim.Native.Nat.{◌-◌}
 use lib.ListN.{get_or}
-use Rattle.quantities.specs.Limits.{greatest_power, consumers}
+use Rattle.quantities.specs.Limits.{consumers}
 use Rattle.state.specs.State.{fresh_consumer}
 use Rattle.close.specs.Close.{charge_by}
-use Rattle.basis.proofs.Filling.{Filling, starts, next, ends}
+use Rattle.basis.proofs.Filling.{Filling}
 use Rattle.close.proofs.money.charges.Given as goal
 
 abbrev pub invariant-loop-i : goal.invariant-loop-i

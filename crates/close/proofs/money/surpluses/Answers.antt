@@ -1,10 +1,6 @@
 use mathlib.Core.Path.{refl}
-use Prim.Native.Nat.{◌-◌}
-use lib.ListN.{get_or}
 use Rattle.quantities.specs.Limits.{consumers}
-use Rattle.state.specs.State.{fresh_consumer}
-use Rattle.close.specs.Close.{surplus_by}
-use Rattle.basis.proofs.Filling.{Filling, starts, next, ends}
+use Rattle.basis.proofs.Filling.{starts, next, ends}
 use Rattle.close.proofs.money.surpluses.Goals as goal
 
 pub loop-i-init : goal.loop-i-init

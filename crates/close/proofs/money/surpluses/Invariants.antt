@@ -4,7 +4,7 @@ use lib.ListN.{get_or}
 use Rattle.quantities.specs.Limits.{consumers}
 use Rattle.state.specs.State.{fresh_consumer}
 use Rattle.close.specs.Close.{surplus_by}
-use Rattle.basis.proofs.Filling.{Filling, starts, next, ends}
+use Rattle.basis.proofs.Filling.{Filling}
 use Rattle.close.proofs.money.surpluses.Given as goal
 
 abbrev pub invariant-loop-i : goal.invariant-loop-i

@@ -1,7 +1,7 @@
 -- `close::total_of` meets its contract. The invariant: what is summed and what is to come make the sum. Assumes nothing.
 use mathlib.Core.Path.{◌≡◌}
 use Prim.Native.Nat.{◌+◌, ◌-◌, ◌≤◌}
-use lib.ListN.{drop, get_or}
+use lib.ListN.{drop}
 use Rattle.basis.specs.Sums.{sum}
 use Rattle.quantities.specs.Limits.{consumers}
 use Rattle.close.proofs.money.total_of.Given as goal
