@@ -1,10 +1,9 @@
 use mathlib.Core.Path.{◌≡◌, refl, ap, ◌∙◌}
-use Prim.Native.Nat.{◌+◌, ◌-◌, ◌*◌, ◌≤◌}
+use Prim.Native.Nat.{◌+◌}
 use native.Mathlib.Omega.{arith}
 use lib.ListN.{take, drop}
 use Rattle.basis.specs.Sums.{sum as total}
 use Rattle.quantities.specs.Limits.{consumers}
-use Rattle.state.specs.State.{greatest_cell}
 use Rattle.decision.proofs.Rows.{row_next}
 use Rattle.decision.proofs.contracts.row_sum.Goals as goal
 

@@ -1,6 +1,6 @@
 -- `decision::contracts::row_sum` meets its contract. Assumes nothing.
-use mathlib.Core.Path.{◌≡◌, refl, ap, ◌∙◌}
-use Prim.Native.Nat.{◌+◌, ◌-◌, ◌*◌, ◌≤◌}
+use mathlib.Core.Path.{◌≡◌}
+use Prim.Native.Nat.{◌-◌, ◌*◌, ◌≤◌}
 use lib.ListN.{take, drop}
 use Rattle.quantities.specs.Limits.{consumers}
 use Rattle.basis.specs.Sums.{sum as total}
