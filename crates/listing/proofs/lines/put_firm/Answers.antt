@@ -14,4 +14,4 @@ returns c =
     let u = c.put_units-producers in
     let p = c.put_producers-demands in
     let b = c.args.book in
-    puts_then (omega arith) u.ensures (puts_then (omega (arith, u.ensures.next, u.ensures.short, u.auto.0)) (puts_as (ap (λ (l : List ℕ). producer_lines l b.limits b.balances) c.owners_of-owners.ensures) p.ensures) c.put_demands.ensures)
+    puts_then (omega arith) u.ensures (puts_then (omega (arith, u.ensures.next, u.ensures.short, u.auto.out)) (puts_as (ap (λ (l : List ℕ). producer_lines l b.limits b.balances) c.owners_of-owners.ensures) p.ensures) c.put_demands.ensures)

@@ -10,7 +10,7 @@ use Rattle.listing.proofs.lines.put_run.Goals as goal
 pub put_line-requires : goal.put_line-requires
 put_line-requires c =
     let s = c.put_stage-counts in
-    omega (arith, ap (λ (l : Line). l.count) c.numbers.ensures, s.ensures.next, s.ensures.short, s.auto.0)
+    omega (arith, ap (λ (l : Line). l.count) c.numbers.ensures, s.ensures.next, s.ensures.short, s.auto.out)
 
 pub returns : goal.returns
 unfolding listing_of
