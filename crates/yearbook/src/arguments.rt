@@ -1,5 +1,5 @@
 // What the program is asked for by its arguments.
-use crate::output::{print, say};
+use crate::output::{Console, print, say};
 
 // What is printed of a journal.
 #[derive(Clone, Copy)]
@@ -62,54 +62,54 @@ pub fn word_of(argument: &[u8]) -> Word {
 }
 
 // How the program is called, on standard error.
-pub fn usage(rt: &HostRuntime) {
+pub fn usage(console: &mut Console) {
     say(
-        rt,
+        console,
         b"usage: yearbook [replies | run | page] [FILE] | yearbook help\n",
     );
 }
 
 // An argument in a word's place that is none.
-pub fn unknown(rt: &HostRuntime, argument: &[u8]) {
-    say(rt, b"yearbook: ");
-    say(rt, argument);
-    say(rt, b": unknown word\n");
-    usage(rt);
+pub fn unknown(console: &mut Console, argument: &[u8]) {
+    say(console, b"yearbook: ");
+    say(console, argument);
+    say(console, b": unknown word\n");
+    usage(console);
 }
 
 // More arguments than a word and a file, or some behind `help`.
-pub fn too_many(rt: &HostRuntime) {
-    say(rt, b"yearbook: too many arguments\n");
-    usage(rt);
+pub fn too_many(console: &mut Console) {
+    say(console, b"yearbook: too many arguments\n");
+    usage(console);
 }
 
 // The words, on standard output.
-pub fn help(rt: &HostRuntime) {
+pub fn help(console: &mut Console) {
     let _ = print(
-        rt,
+        console,
         b"usage: yearbook [replies | run | page] [FILE] | yearbook help\n",
     ) && print(
-        rt,
+        console,
         b"Reads a journal of the firm capacity book, FILE or standard input, of at most 65536 bytes.\n",
     ) && print(
-        rt,
+        console,
         b"  without a word  the listing: U units, P producers, D demands, S settlements, T totals, R records\n",
     ) && print(
-        rt,
+        console,
         b"  replies         each record's place, call, number and meaning, and where the reading stopped\n",
     ) && print(
-        rt,
+        console,
         b"  run             the counts, where and why the reading stopped, and the first refused record with its number\n",
     ) && print(
-        rt,
+        console,
         b"  page            the printed close: a line of 36 columns for each declared consumer, 50 to a page\n",
-    ) && print(rt, b"  help            these words\n")
+    ) && print(console, b"  help            these words\n")
         && print(
-            rt,
+            console,
             b"A journal holds binary records; scripts/journal of the sources makes them from lines of text.\n",
         )
         && print(
-            rt,
+            console,
             b"Where the program ends by itself, standard error is empty exactly when all was read and accepted, and all that was asked for was written.\n",
         );
 }
