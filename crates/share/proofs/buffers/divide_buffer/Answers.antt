@@ -1,6 +1,6 @@
 -- `share::buffers::divide_buffer` meets its contract: it divides the numbers that the buffer holds.
 -- Assumes nothing.
-use mathlib.Core.Path.{sym, ap, ◌∙◌}
+use mathlib.Core.Path.{◌≡◌, sym, ap, ◌∙◌}
 use native.Mathlib.Omega.{arith}
 use lib.ListN.{length}
 use Rattle.share.proofs.Encoded.{refused, room_for_all, shared}
@@ -13,9 +13,11 @@ returns-then-number-ne0 c =
 pub put_numbers-requires : goal.put_numbers-requires
 put_numbers-requires c =
     let l = ap length c.divide.ensures.amounts in
-    omega (arith, l, room_for_all c.args.total c.args.buffer.now c.args.amounts.now (length c.args.numbers.now) c.requires.0 c.read_weights.new.weights c.read_weights.ensures (sym c.division_number-number.ensures ∙ c.if-number-ne0.false) c.args.parts.now c.args.parts.now c.requires.1)
+    let z : c.division_number-number.result ≡ 0 = omega arith in
+    omega (arith, l, room_for_all c.args.total c.args.buffer.now c.args.amounts.now (length c.args.numbers.now) c.requires.0 c.read_weights.new.weights c.read_weights.ensures (sym c.division_number-number.ensures ∙ z) c.args.parts.now c.args.parts.now c.requires.1)
 
 pub returns : goal.returns
 returns c =
-    shared c.args.total c.args.buffer.now c.args.amounts.now (length c.args.numbers.now) c.requires.0 c.read_weights.new.weights c.read_weights.ensures (sym c.division_number-number.ensures ∙ c.if-number-ne0.false) c.args.parts.now _ c.requires.1
+    let z : c.division_number-number.result ≡ 0 = omega arith in
+    shared c.args.total c.args.buffer.now c.args.amounts.now (length c.args.numbers.now) c.requires.0 c.read_weights.new.weights c.read_weights.ensures (sym c.division_number-number.ensures ∙ z) c.args.parts.now _ c.requires.1
     (c.put_numbers.ensures ∙ ap (λ l. Rattle.basis.specs.Numbers.written c.args.amounts.now 0 (Rattle.basis.specs.Numbers.all_bytes_of 8 l)) c.divide.ensures.amounts)
