@@ -1,8 +1,8 @@
 -- `page::count_declared` meets its contract. The invariant: so many of the first i consumers are declared. Assumes nothing.
-use mathlib.Core.Path.{◌≡◌, refl, sym, ap, ◌∙◌}
-use Prim.Native.Nat.{◌+◌, ◌-◌, ◌≤◌}
+use mathlib.Core.Path.{◌≡◌}
+use Prim.Native.Nat.{◌-◌, ◌≤◌}
 use Rattle.quantities.specs.Limits.{consumers}
-use Rattle.page.proofs.Growing.{same_count, one_at_most, count_to, count_more, count_at_most, count_all}
+use Rattle.page.proofs.Growing.{count_to}
 use Rattle.page.proofs.pages.count_declared.Given as goal
 
 abbrev pub invariant-loop-i : goal.invariant-loop-i

@@ -1,5 +1,5 @@
 use mathlib.Core.Path.{◌≡◌, refl, ap, ◌∙◌}
-use Prim.Native.Nat.{◌+◌, ◌-◌, ◌≤◌}
+use Prim.Native.Nat.{◌+◌}
 use native.Mathlib.Nat.{le_trans}
 use native.Mathlib.Omega.{arith}
 use lib.ListN.{length}
@@ -7,7 +7,7 @@ use Rattle.basis.specs.Numbers.{written}
 use Rattle.quantities.specs.Limits.{consumers}
 use Rattle.page.specs.Page.{number_at}
 use Rattle.page.proofs.Lengths.{bytes-within}
-use Rattle.page.proofs.Growing.{room_for_one, text_to, text_all, Standing, standing_none, standing_more}
+use Rattle.page.proofs.Growing.{room_for_one, text_to, text_all, standing_none, standing_more}
 use Rattle.page.proofs.pages.put_lines.Goals as goal
 
 pub loop-i-init : goal.loop-i-init

@@ -1,9 +1,9 @@
 -- `page::put_lines` meets its contract. The invariant: the text of the first i consumers stands at the front. Assumes nothing.
-use mathlib.Core.Path.{◌≡◌, refl, ap, ◌∙◌}
-use Prim.Native.Nat.{◌+◌, ◌-◌, ◌≤◌}
+use mathlib.Core.Path.{◌≡◌}
+use Prim.Native.Nat.{◌-◌, ◌≤◌}
 use lib.ListN.{length}
 use Rattle.quantities.specs.Limits.{consumers}
-use Rattle.page.proofs.Growing.{room_for_one, text_to, text_all, Standing, standing_none, standing_more}
+use Rattle.page.proofs.Growing.{Standing}
 use Rattle.page.proofs.pages.put_lines.Given as goal
 
 abbrev pub invariant-loop-i : goal.invariant-loop-i
