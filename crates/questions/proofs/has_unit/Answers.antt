@@ -1,9 +1,5 @@
-use mathlib.Core.Path.{◌≡◌, sym, ◌∙◌}
-use Prim.Native.Nat.{◌-◌, ◌≤◌}
+use mathlib.Core.Path.{sym, ◌∙◌}
 use native.Mathlib.Omega.{arith}
-use lib.ListN.{drop}
-use Rattle.quantities.specs.Limits.{units as greatest_unit}
-use Rattle.questions.specs.Questions.{has_unit}
 use Rattle.questions.proofs.Owned.{owned_here, owned_later, owned_nowhere}
 use Rattle.questions.proofs.has_unit.Goals as goal
 
