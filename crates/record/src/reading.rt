@@ -53,6 +53,7 @@ fn read_marked(journal: &[u8], at: usize, mark: Mark, size: usize, width: usize)
 }
 
 // What stands at a place of a journal; any journal and any place are taken.
+#[tactic(auto, using(crate::proofs::Reader::at_end, crate::proofs::Reader::at_one))]
 pub fn read_at(journal: &[u8], at: usize) -> Read
     ensures { result ≡ read_at journal.now at }
 {
@@ -85,6 +86,7 @@ pub fn stop_number(read: Read) -> u32
 }
 
 // The part of the journal between two places, empty where there is none.
+#[tactic(auto, using(crate::proofs::Reader::no_part, crate::proofs::Reader::long_part, crate::proofs::Reader::part_of_lem))]
 pub fn readings_of(journal: &[u8], from: usize, to: usize) -> &[u8]
     ensures { result.now ≡ part_of journal.now from to }
 {

@@ -6,19 +6,9 @@ use Rattle.basis.proofs.Numbers.{number_at_below}
 use Rattle.table.specs.Records.{marks, mark_at}
 use Rattle.record.specs.Reading.{read_found}
 use Rattle.table.specs.declared.forms.Found.{Found}
-use Rattle.record.proofs.Reader.{at_end, at_one, at_two}
+use Rattle.record.proofs.Reader.{at_two}
 use Rattle.record.proofs.Shows.{mark_found}
 use Rattle.record.proofs.reading.read_at.Goals as goal
-
-pub returns-then-journal-at : goal.returns-then-journal-at
-returns-then-journal-at c =
-    let a = c.args in
-    at_end a.journal.now a.at c.if-journal-at.true
-
-pub returns-then-journal-at-lt2 : goal.returns-then-journal-at-lt2
-returns-then-journal-at-lt2 c =
-    let a = c.args in
-    at_one a.journal.now a.at c.if-journal-at.false c.if-journal-at-lt2.true
 
 pub overflow_cast-number_at : goal.overflow_cast-number_at
 overflow_cast-number_at c =
