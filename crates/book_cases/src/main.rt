@@ -2,10 +2,12 @@
 // the book then answers, in the form of the listing.
 #![tactic(auto)]
 
-use libc::{STDIN_FILENO, STDOUT_FILENO};
+ghost use Rattle.std.specs.Prelude.{◌≤◌, length, IfOk};
+
 use questions::{Adjustment, ProducerTotals, Signed, UnitOffers};
 use record::{Call, Read};
 use state::{Book, Declaration, Stage};
+use std::io::{self, BufWriter, Write};
 
 // The numbers of units, producers and consumers.
 const UNITS: u32 = quantities::UNITS as u32;
@@ -13,6 +15,9 @@ const UNITS: u32 = quantities::UNITS as u32;
 const PRODUCERS: u32 = quantities::PRODUCERS as u32;
 
 const CONSUMERS: u32 = quantities::CONSUMERS as u32;
+
+// The bytes of a journal, at most.
+const MOST: usize = 65_536;
 
 // As many turns as a journal of one byte a record has, and one for its end.
 const TURNS: u32 = 65_537;
@@ -28,26 +33,26 @@ struct Run {
     stop: u32,
 }
 
-fn put(text: &[u8]) {
-    io::write_all(STDOUT_FILENO, text);
+fn put<W: Write>(out: &mut W, text: &[u8]) -> io::Result<()> {
+    out.write_all(text)
 }
 
-fn put_digits(x: u64) {
-    io::print_decimal(STDOUT_FILENO, x);
+fn put_digits<W: Write>(out: &mut W, x: u64) -> io::Result<()> {
+    write!(out, "{x}")
 }
 
 // A blank and a number.
-fn put_number(x: u64) {
-    put(b" ");
-    put_digits(x);
+fn put_number<W: Write>(out: &mut W, x: u64) -> io::Result<()> {
+    put(out, b" ")?;
+    put_digits(out, x)
 }
 
-fn put_signed(x: Signed) {
+fn put_signed<W: Write>(out: &mut W, x: Signed) -> io::Result<()> {
     match x {
-        Signed::Plus(n) => put_number(n),
+        Signed::Plus(n) => put_number(out, n),
         Signed::Minus(n) => {
-            put(b" -");
-            put_digits(n);
+            put(out, b" -")?;
+            put_digits(out, n)
         }
     }
 }
@@ -76,39 +81,46 @@ fn accepts(number: u32) -> u64 {
     if number == 0 { 1 } else { 0 }
 }
 
-fn taken(run: Run, call: Call, readings: &[u8], next: usize) -> Run {
+fn taken<W: Write>(
+    out: &mut W,
+    run: Run,
+    call: Call,
+    readings: &[u8],
+    next: usize,
+) -> io::Result<Run> {
     let old = run.book;
     let reply = book::step(old, call, readings);
-    put_digits(run.at as u64);
-    put_number(reply.number as u64);
-    put(b"\n");
+    put_digits(out, run.at as u64)?;
+    put_number(out, reply.number as u64)?;
+    put(out, b"\n")?;
     let now = reply.book;
-    Run {
+    Ok(Run {
         book: now,
         at: next,
-        read: std::num::wrapping_add_u64(run.read, 1),
-        accepted: std::num::wrapping_add_u64(run.accepted, accepts(reply.number)),
+        read: run.read.wrapping_add(1),
+        accepted: run.accepted.wrapping_add(accepts(reply.number)),
         going: true,
         stop: 0,
-    }
+    })
 }
 
 // The next record, or the stop.
-fn turn(journal: &[u8], run: Run) -> Run {
+fn turn<W: Write>(out: &mut W, journal: &[u8], run: Run) -> io::Result<Run> {
     if !run.going {
-        return run;
+        return Ok(run);
     }
     let at = run.at;
     let read = record::read_at(journal, at);
     match read {
-        Read::End => stopped(run, 0),
-        Read::Cut => stopped(run, record::stop_number(read)),
-        Read::Unknown => stopped(run, record::stop_number(read)),
+        Read::End => Ok(stopped(run, 0)),
+        Read::Cut => Ok(stopped(run, record::stop_number(read))),
+        Read::Unknown => Ok(stopped(run, record::stop_number(read))),
         Read::Record {
             call,
             readings,
             next,
         } => taken(
+            out,
             run,
             call,
             record::readings_of(journal, readings, next),
@@ -117,161 +129,183 @@ fn turn(journal: &[u8], run: Run) -> Run {
     }
 }
 
-fn run_of(journal: &[u8]) -> Run {
+fn run_of<W: Write>(out: &mut W, journal: &[u8]) -> io::Result<Run> {
     let mut run = begin();
     let mut left = TURNS;
     while 0 < left {
-        run = turn(journal, run);
+        run = turn(out, journal, run)?;
         left -= 1;
     }
-    run
+    Ok(run)
 }
 
-fn show_unit(book: Book, unit: u32) {
+fn show_unit<W: Write>(out: &mut W, book: Book, unit: u32) -> io::Result<()> {
     match questions::unit_offers(book, unit) {
-        UnitOffers::NotEnrolled => {}
+        UnitOffers::NotEnrolled => Ok(()),
         UnitOffers::Offers { firm, efficient } => {
-            put(b"U");
-            put_number(unit as u64);
-            put_number(firm as u64);
-            put_number(efficient as u64);
-            put(b"\n");
+            put(out, b"U")?;
+            put_number(out, unit as u64)?;
+            put_number(out, firm as u64)?;
+            put_number(out, efficient as u64)?;
+            put(out, b"\n")
         }
     }
 }
 
-fn show_units(book: Book) {
+fn show_units<W: Write>(out: &mut W, book: Book) -> io::Result<()> {
     let mut unit = 1;
     while unit <= UNITS {
-        show_unit(book, unit);
+        show_unit(out, book, unit)?;
         unit += 1;
     }
+    Ok(())
 }
 
-fn show_producer(book: Book, producer: u32) {
+fn show_producer<W: Write>(out: &mut W, book: Book, producer: u32) -> io::Result<()> {
     match questions::producer_totals(book, producer) {
-        ProducerTotals::WithoutUnit => {}
+        ProducerTotals::WithoutUnit => Ok(()),
         ProducerTotals::Totals { limit, committed } => {
-            put(b"P");
-            put_number(producer as u64);
-            put_number(limit as u64);
-            put_number(committed);
-            put(b"\n");
+            put(out, b"P")?;
+            put_number(out, producer as u64)?;
+            put_number(out, limit as u64)?;
+            put_number(out, committed)?;
+            put(out, b"\n")
         }
     }
 }
 
-fn show_producers(book: Book) {
+fn show_producers<W: Write>(out: &mut W, book: Book) -> io::Result<()> {
     let mut producer = 1;
     while producer <= PRODUCERS {
-        show_producer(book, producer);
+        show_producer(out, book, producer)?;
         producer += 1;
     }
+    Ok(())
 }
 
-fn show_demand(book: Book, consumer: u32) {
+fn show_demand<W: Write>(out: &mut W, book: Book, consumer: u32) -> io::Result<()> {
     match questions::declaration_of(book, consumer) {
-        Declaration::Undeclared => {}
+        Declaration::Undeclared => Ok(()),
         Declaration::Declared(figures) => {
-            put(b"D");
-            put_number(consumer as u64);
-            put_number(figures.df as u64);
-            put(b"\n");
+            put(out, b"D")?;
+            put_number(out, consumer as u64)?;
+            put_number(out, figures.df as u64)?;
+            put(out, b"\n")
         }
     }
 }
 
-fn show_demands(book: Book) {
+fn show_demands<W: Write>(out: &mut W, book: Book) -> io::Result<()> {
     let mut consumer = 1;
     while consumer <= CONSUMERS {
-        show_demand(book, consumer);
+        show_demand(out, book, consumer)?;
         consumer += 1;
     }
+    Ok(())
 }
 
 // A charge with a minus, or else the credit.
-fn put_cents(charge: u64, credit: u64) {
+fn put_cents<W: Write>(out: &mut W, charge: u64, credit: u64) -> io::Result<()> {
     if charge == 0 {
-        put_number(credit);
+        put_number(out, credit)
     } else {
-        put_signed(Signed::Minus(charge));
+        put_signed(out, Signed::Minus(charge))
     }
 }
 
-fn show_adjustment(book: Book, consumer: u32) {
+fn show_adjustment<W: Write>(out: &mut W, book: Book, consumer: u32) -> io::Result<()> {
     match questions::adjustment_of(book, consumer) {
-        Adjustment::Unsettled => {}
+        Adjustment::Unsettled => Ok(()),
         Adjustment::Settled {
             adf,
             charge,
             credit,
         } => {
-            put(b"S");
-            put_number(consumer as u64);
-            put_signed(adf);
-            put_cents(charge, credit);
-            put(b"\n");
+            put(out, b"S")?;
+            put_number(out, consumer as u64)?;
+            put_signed(out, adf)?;
+            put_cents(out, charge, credit)?;
+            put(out, b"\n")
         }
     }
 }
 
-fn show_adjustments(book: Book) {
+fn show_adjustments<W: Write>(out: &mut W, book: Book) -> io::Result<()> {
     let mut consumer = 1;
     while consumer <= CONSUMERS {
-        show_adjustment(book, consumer);
+        show_adjustment(out, book, consumer)?;
         consumer += 1;
     }
+    Ok(())
 }
 
-fn show_totals(book: Book) {
+fn show_totals<W: Write>(out: &mut W, book: Book) -> io::Result<()> {
     let totals = questions::close_totals(book);
-    put(b"T");
-    put_number(totals.charged);
-    put_number(totals.credited);
-    put_number(totals.undistributed);
-    put(b"\n");
+    put(out, b"T")?;
+    put_number(out, totals.charged)?;
+    put_number(out, totals.credited)?;
+    put_number(out, totals.undistributed)?;
+    put(out, b"\n")
 }
 
-fn show_firm(book: Book) {
-    show_units(book);
-    show_producers(book);
-    show_demands(book);
+fn show_firm<W: Write>(out: &mut W, book: Book) -> io::Result<()> {
+    show_units(out, book)?;
+    show_producers(out, book)?;
+    show_demands(out, book)
 }
 
 // What a book of its stage has to show.
-fn show_book(book: Book) {
+fn show_book<W: Write>(out: &mut W, book: Book) -> io::Result<()> {
     match questions::stage_of(book) {
-        Stage::Blank => {}
-        Stage::Gathering => {}
-        Stage::Firm => show_firm(book),
+        Stage::Blank => Ok(()),
+        Stage::Gathering => Ok(()),
+        Stage::Firm => show_firm(out, book),
         Stage::Closed => {
-            show_firm(book);
-            show_adjustments(book);
-            show_totals(book);
+            show_firm(out, book)?;
+            show_adjustments(out, book)?;
+            show_totals(out, book)
         }
     }
 }
 
-fn show_counts(read: u64, accepted: u64) {
-    put(b"R");
-    put_number(read);
-    put_number(accepted);
-    put_number(std::num::wrapping_sub_u64(read, accepted));
-    put(b"\n");
+fn show_counts<W: Write>(out: &mut W, read: u64, accepted: u64) -> io::Result<()> {
+    put(out, b"R")?;
+    put_number(out, read)?;
+    put_number(out, accepted)?;
+    put_number(out, read.wrapping_sub(accepted))?;
+    put(out, b"\n")
 }
 
-fn show(run: Run) {
-    put(b"stop");
-    put_number(run.stop as u64);
-    put_number(run.at as u64);
-    put(b"\n");
+fn show<W: Write>(out: &mut W, run: Run) -> io::Result<()> {
+    put(out, b"stop")?;
+    put_number(out, run.stop as u64)?;
+    put_number(out, run.at as u64)?;
+    put(out, b"\n")?;
     let last = run.book;
-    show_book(last);
-    show_counts(run.read, run.accepted);
+    show_book(out, last)?;
+    show_counts(out, run.read, run.accepted)
 }
 
-fn main() {
-    let mut space = io::large_buffer();
-    let size = io::read_full(STDIN_FILENO, &mut space);
-    show(run_of(&space[..size]));
+// Reads until the space is full or the input ends; answers how many bytes.
+fn read_full<R: io::Read>(reader: &mut R, space: &mut [u8]) -> io::Result<usize>
+    ensures { IfOk result (λ n. n ≤ length space.new) }
+{
+    let mut count = 0;
+    while count < space.len() {
+        let more = reader.read(&mut space[count..])?;
+        if more == 0 {
+            break;
+        }
+        count += more;
+    }
+    Ok(count)
+}
+
+fn main(rt: HostRuntime) -> io::Result<()> {
+    let mut space = [0u8; MOST];
+    let size = read_full(&mut rt.stdin(), &mut space)?;
+    let mut out = BufWriter::new(rt.alloc(), io::writer(&rt))?;
+    let run = run_of(&mut out, &space[..size])?;
+    show(&mut out, run)?;
+    out.flush()
 }
