@@ -1,6 +1,6 @@
 -- What the run's loop keeps: with what is still to be read, the tally and the book make the run, and the figures beside the book are
 -- right.
-use Rattle.std.proofs.Common.{ℕ, ◌-◌, length}
+use Rattle.std.proofs.Common.{◌-◌, length}
 use Rattle.journal.specs.Tally.{run_with}
 use Rattle.journal.proofs.Ready.{Ready}
 use Rattle.journal.proofs.Underway.{Underway}
