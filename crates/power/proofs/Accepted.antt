@@ -10,10 +10,9 @@ use lib.ListN.{length}
 use Rattle.basis.specs.Choice.{pick, between}
 use Rattle.basis.specs.Sums.{all_at_most}
 use Rattle.basis.proofs.Choice.{both_true, between_true}
-use Rattle.power.specs.Quantity.{quarters_of_hour}
 use Rattle.quantities.specs.Limits.{greatest_reading, greatest_ending, greatest_count, greatest_time, least_time}
 use Rattle.power.specs.Ranges.{readings_of, test_in_range}
-use Rattle.power.specs.Power.{reaches, count_fits, test_number}
+use Rattle.power.specs.Power.{count_fits, test_number}
 
 -- what an accepted test shows
 pub record AcceptedTest (ending tc count : ℕ) (bytes : List ℕ) : Type 0 where
@@ -50,10 +49,6 @@ module _ (ending tc count : ℕ) (bytes : List ℕ) where
       go true true r f e = in_range r f
       go true false r f e = absurd (omega arith)
       go false f q p e = absurd (omega arith)
-
--- 80 % of a full time is an hour or more
-pub reached_hour : (count tc : ℕ) → least_time ≤ tc → reaches count tc ≡ true → quarters_of_hour ≤ count
-reached_hour count tc h e = omega (arith, leb-true (4 * tc) (5 * count) e)
 
 -- no more readings than the full time has quarters
 pub count_within_time : (ending tc count : ℕ) → count_fits ending tc count ≡ true → count ≤ tc

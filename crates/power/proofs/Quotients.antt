@@ -1,12 +1,8 @@
 -- Quotients and products, whatever the unit.
 use Prim.Native.Nat.{ℕ, ◌*◌, ◌/◌, ◌≤◌}
-use native.Mathlib.Nat.{mul_comm, mul_left_comm, mul-le-mul_left, mul-le-mul_right, div-le_of_le-mul}
+use native.Mathlib.Nat.{mul_comm, mul_left_comm, mul-le-mul_left, div-le_of_le-mul}
 use Rattle.power.specs.declared.quantity.Kwh.{Kwh}
 use Rattle.power.specs.Quantity.{quarters_of_hour, over_quarters}
-
--- over a time of more than the factor, a quotient is no more than the energy's figure
-pub quotient_fits : (k x q : ℕ) → k ≤ q → k * x / q ≤ x
-quotient_fits k x q h = div-le_of_le-mul q (mul-le-mul_right x h)
 
 -- as much a quarter as m gives at most the power of m in one quarter
 pub over_quarters_at_most : (energy : Kwh) (quarters m : ℕ) → energy.0 ≤ quarters * m → (over_quarters energy quarters).0 ≤ quarters_of_hour * m

@@ -5,26 +5,11 @@ use Rattle.power.proofs.Readings.{sum_from, sum_end, energy_at_most}
 use native.Mathlib.Omega.{arith}
 use Rattle.power.proofs.power.energy_of.Goals as goal
 
-pub loop-i-init : goal.loop-i-init
-loop-i-init c = (omega arith, omega arith)
-
-pub overflow_mul-i : goal.overflow_mul-i
-overflow_mul-i c = omega arith
-
-pub number_at-energy-requires : goal.number_at-energy-requires
-number_at-energy-requires c = omega arith
-
 pub overflow_add-energy : goal.overflow_add-energy
 overflow_add-energy c =
     let n = c.args.count in
     let i = c.loop-i.i in
     omega (arith, c.number_at-energy.ensures, sum_from n i c.args.readings.now c.loop-i-test.true, energy_at_most greatest_reading n c.args.readings.now c.requires.2)
-
-pub overflow_add-i : goal.overflow_add-i
-overflow_add-i c = omega arith
-
-pub loop-i-smaller : goal.loop-i-smaller
-loop-i-smaller c = omega arith
 
 pub loop-i-preserved : goal.loop-i-preserved
 loop-i-preserved c =

@@ -1,4 +1,4 @@
-use mathlib.Core.Path.{◌≡◌, refl, sym, ap, ◌∙◌}
+use mathlib.Core.Path.{◌≡◌, sym, ap, ◌∙◌}
 use mathlib.Core.Bool.{Bool, true, false}
 use Prim.Native.Nat.{ℕ, ◌+◌, ◌≤◌}
 use native.Mathlib.Omega.{arith}
@@ -42,20 +42,5 @@ returns c =
     ∙ ap (λ r. pick (eqb l.excess 0) (all_at_most greatest_reading r) false) (readings_end a.count l.i a.readings.now c.loop-i-test.false)
     ∙ alone (eqb l.excess 0))
 
-pub loop-i-init : goal.loop-i-init
-loop-i-init c = (omega arith, omega arith, refl)
-
-pub overflow_mul-i : goal.overflow_mul-i
-overflow_mul-i c = omega arith
-
-pub number_at-requires : goal.number_at-requires
-number_at-requires c = omega arith
-
 pub overflow_add-excess : goal.overflow_add-excess
 overflow_add-excess c = omega (arith, c.above-excess.ensures, small (leb c.number_at.result greatest_reading))
-
-pub overflow_add-i : goal.overflow_add-i
-overflow_add-i c = omega arith
-
-pub loop-i-smaller : goal.loop-i-smaller
-loop-i-smaller c = omega arith
