@@ -1,8 +1,7 @@
 -- The coefficient of availability is at most 1.
 use mathlib.Core.Path.{◌≡◌, refl}
 use mathlib.Core.Bool.{Bool, true, false}
-use Prim.Native.Nat.{ℕ, ◌+◌, ◌*◌, ◌/◌, ◌^◌, ◌≤◌, ◌<◌, zero-le}
-use native.Mathlib.Nat.{mul-le-mul}
+use Prim.Native.Nat.{ℕ, ◌+◌, ◌*◌, ◌/◌, ◌≤◌, ◌<◌, zero-le}
 use native.Mathlib.Omega.{arith}
 use borrow.Author.Tests.{leb-true, eqb-false}
 use lib.Dec.{leb, eqb}
@@ -20,13 +19,6 @@ use Rattle.power.proofs.Quotients.{part_at_most}
 
 pub ready_at_most_whole : ReadyAtMostWhole
 ready_at_most_whole m = omega arith
-
--- a power times ready minutes fits 64 bits
-pub product_fits : (p : ℕ) (m : Minutes) → p < 2 ^ 32 → whole_minutes m ≤ greatest_minutes → p * ready_minutes m < 2 ^ 64
-product_fits p m h w =
-    let a : p ≤ 4294967296 = omega arith in
-    let b : ready_minutes m ≤ greatest_minutes = omega arith in
-    let q : p * ready_minutes m ≤ 4294967296 * greatest_minutes = mul-le-mul a b in omega arith
 
 -- minutes that have a coefficient
 abbrev pub Fit : Minutes → Type 0
