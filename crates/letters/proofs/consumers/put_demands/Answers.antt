@@ -1,9 +1,6 @@
 use mathlib.Core.Path.{◌≡◌, refl}
-use Prim.Native.Nat.{◌-◌, ◌*◌, ◌≤◌}
 use native.Mathlib.Omega.{arith}
-use lib.ListN.{length}
 use Rattle.quantities.specs.Limits.{consumers}
-use Rattle.text.specs.Text.{Puts, line_most, joined}
 use Rattle.letters.specs.Letters.{demand_line_at, demand_lines}
 use Rattle.text.proofs.Joining.{puts_joined_none, puts_joined}
 use Rattle.letters.proofs.consumers.put_demands.Goals as goal

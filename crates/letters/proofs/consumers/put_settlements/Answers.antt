@@ -1,9 +1,6 @@
 use mathlib.Core.Path.{◌≡◌, refl}
-use Prim.Native.Nat.{◌-◌, ◌*◌, ◌≤◌}
 use native.Mathlib.Omega.{arith}
-use lib.ListN.{length}
 use Rattle.quantities.specs.Limits.{consumers}
-use Rattle.text.specs.Text.{Puts, line_most, joined}
 use Rattle.letters.specs.Letters.{settlement_line_at, settlement_lines}
 use Rattle.text.proofs.Joining.{puts_joined_none, puts_joined}
 use Rattle.letters.proofs.consumers.put_settlements.Goals as goal

@@ -1,8 +1,5 @@
-use mathlib.Core.Path.{◌≡◌, refl, sym, ◌∙◌}
-use Prim.Native.Nat.{◌-◌, ◌≤◌}
+use mathlib.Core.Path.{refl, sym, ◌∙◌}
 use native.Mathlib.Omega.{arith}
-use lib.ListN.{length, drop}
-use Rattle.letters.specs.Letters.{owns}
 use Rattle.letters.proofs.Owners.{owns_here, owns_further, owns_none}
 use Rattle.letters.proofs.producers.has_unit.Goals as goal
 

@@ -1,5 +1,5 @@
 -- `letters::has_unit` meets its contract. The invariant: whether the producer is among those still to come is the answer. Assumes nothing.
-use mathlib.Core.Path.{◌≡◌, refl, sym, ◌∙◌}
+use mathlib.Core.Path.{◌≡◌}
 use Prim.Native.Nat.{◌-◌, ◌≤◌}
 use lib.ListN.{length, drop}
 use Rattle.letters.specs.Letters.{owns}

@@ -1,13 +1,11 @@
-use mathlib.Core.Path.{◌≡◌, refl, sym, ap, ◌∙◌}
+use mathlib.Core.Path.{◌≡◌, refl, ap, ◌∙◌}
 use mathlib.Core.Bool.{Bool}
-use Prim.Native.Nat.{◌+◌, ◌-◌, ◌*◌, ◌≤◌}
+use Prim.Native.Nat.{◌+◌}
 use native.Mathlib.Omega.{arith}
-use borrow.Author.Rules.{rules}
-use lib.ListN.{length, get_or}
+use lib.ListN.{get_or}
 use Rattle.basis.specs.Sums.{sum}
-use Rattle.quantities.specs.Limits.{units, producers}
+use Rattle.quantities.specs.Limits.{producers}
 use Rattle.state.specs.State.{row_of}
-use Rattle.text.specs.Text.{Puts, line_most, joined}
 use Rattle.text.proofs.Putting.{puts_as}
 use Rattle.text.proofs.Joining.{puts_joined_none, puts_joined}
 use Rattle.letters.specs.Letters.{owns, producer_line, producer_line_at, producer_lines}

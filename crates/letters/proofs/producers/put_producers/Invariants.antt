@@ -1,10 +1,10 @@
 -- `letters::put_producers` meets its contract. The invariant: the lines of the first i producers stand in the buffer. Assumes nothing.
-use mathlib.Core.Path.{◌≡◌, refl, sym, ap, ◌∙◌}
-use Prim.Native.Nat.{◌+◌, ◌-◌, ◌*◌, ◌≤◌}
-use lib.ListN.{length, get_or}
-use Rattle.quantities.specs.Limits.{units, producers}
+use mathlib.Core.Path.{◌≡◌}
+use Prim.Native.Nat.{◌-◌, ◌*◌, ◌≤◌}
+use lib.ListN.{length}
+use Rattle.quantities.specs.Limits.{producers}
 use Rattle.text.specs.Text.{Puts, line_most, joined}
-use Rattle.letters.specs.Letters.{owns, producer_line, producer_line_at, producer_lines}
+use Rattle.letters.specs.Letters.{producer_line_at}
 use Rattle.letters.proofs.producers.put_producers.Given as goal
 
 abbrev pub invariant-loop-i : goal.invariant-loop-i

@@ -1,7 +1,6 @@
 use mathlib.Core.Path.{refl}
-use Prim.Native.Nat.{◌-◌}
 use native.Mathlib.Omega.{arith}
-use Rattle.basis.proofs.Filling.{Filling, starts, next, ends}
+use Rattle.basis.proofs.Filling.{starts, next, ends}
 use Rattle.quantities.specs.Limits.{units}
 use Rattle.letters.specs.Letters.{owner_at, owners_of}
 use Rattle.letters.proofs.units.owners_of.Goals as goal

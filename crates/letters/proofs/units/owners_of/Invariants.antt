@@ -1,8 +1,8 @@
 -- `letters::owners_of` meets its contract. The invariant: the producers of the first i units are found. Assumes nothing.
 use Prim.Native.Nat.{◌-◌}
-use Rattle.basis.proofs.Filling.{Filling, starts, next, ends}
+use Rattle.basis.proofs.Filling.{Filling}
 use Rattle.quantities.specs.Limits.{units}
-use Rattle.letters.specs.Letters.{owner_at, owners_of}
+use Rattle.letters.specs.Letters.{owner_at}
 use Rattle.letters.proofs.units.owners_of.Given as goal
 
 abbrev pub invariant-loop-i : goal.invariant-loop-i

@@ -1,9 +1,6 @@
 use mathlib.Core.Path.{◌≡◌, refl}
-use Prim.Native.Nat.{◌-◌, ◌*◌, ◌≤◌}
 use native.Mathlib.Omega.{arith}
-use lib.ListN.{length}
 use Rattle.quantities.specs.Limits.{units}
-use Rattle.text.specs.Text.{Puts, line_most, joined}
 use Rattle.letters.specs.Letters.{unit_line_at, unit_lines}
 use Rattle.text.proofs.Joining.{puts_joined_none, puts_joined}
 use Rattle.letters.proofs.units.put_units.Goals as goal

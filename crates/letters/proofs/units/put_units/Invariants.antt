@@ -1,10 +1,10 @@
 -- `letters::put_units` meets its contract. The invariant: the lines of the first i units stand in the buffer. Assumes nothing.
-use mathlib.Core.Path.{◌≡◌, refl}
+use mathlib.Core.Path.{◌≡◌}
 use Prim.Native.Nat.{◌-◌, ◌*◌, ◌≤◌}
 use lib.ListN.{length}
 use Rattle.quantities.specs.Limits.{units}
 use Rattle.text.specs.Text.{Puts, line_most, joined}
-use Rattle.letters.specs.Letters.{unit_line_at, unit_lines}
+use Rattle.letters.specs.Letters.{unit_line_at}
 use Rattle.letters.proofs.units.put_units.Given as goal
 
 abbrev pub invariant-loop-i : goal.invariant-loop-i
