@@ -12,7 +12,7 @@ pub returns-in_default : goal.returns-in_default
 returns-in_default c =
     let a = c.args in
     let r = c.read_at-read in
-    tells_ending a.journal.now a.rest (omega arith) c.if-left-eq0.false (ending a.journal.now a.rest.book a.rest.place r.result (sym r.ensures) (λ call from next e. ⊎_elim (λ q. omega arith) (λ v. ⊎_elim (λ q. omega arith) (λ q. omega arith) v) (rw e at c.in_default.in_default-own.keys2))) (rw c.stop_number.ensures at c.put_end-size.ensures)
+    tells_ending a.journal.now a.rest (omega arith) c.if-left-eq0.false (ending a.journal.now a.rest.book a.rest.place r.result (sym r.ensures) (λ call from next e. ?)) (rw c.stop_number.ensures at c.put_end-size.ensures)
 
 pub returns : goal.returns
 returns c =
