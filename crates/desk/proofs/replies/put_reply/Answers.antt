@@ -1,6 +1,5 @@
 -- `desk::put_reply` meets its contract. Assumes nothing.
 use mathlib.Core.Path.{sym, ◌∙◌}
-use mathlib.Core.Logic.{⊎_elim}
 use native.Mathlib.Omega.{arith}
 use Rattle.desk.proofs.Lines.{ending, tells_nothing, tells_ending, tells_record}
 use Rattle.desk.proofs.replies.put_reply.Goals as goal
@@ -12,7 +11,7 @@ pub returns-in_default : goal.returns-in_default
 returns-in_default c =
     let a = c.args in
     let r = c.read_at-read in
-    tells_ending a.journal.now a.rest (omega arith) c.if-left-eq0.false (ending a.journal.now a.rest.book a.rest.place r.result (sym r.ensures) (λ call from next e. ?)) (rw c.stop_number.ensures at c.put_end-size.ensures)
+    tells_ending a.journal.now a.rest (omega arith) c.if-left-eq0.false (ending a.journal.now a.rest.book a.rest.place r.result (sym r.ensures) c.in_default.not-Record) (rw c.stop_number.ensures at c.put_end-size.ensures)
 
 pub returns : goal.returns
 returns c =
