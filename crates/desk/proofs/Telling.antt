@@ -1,6 +1,6 @@
 -- The replies are those of the run.
 use mathlib.Core.Path.{◌≡◌, refl, sym, ap, ◌∙◌}
-use mathlib.Core.Bool.{Bool, true, false}
+use mathlib.Core.Bool.{Bool, true}
 use mathlib.Core.List.{List, [], ◌∷◌, ◌++◌, append_assoc, append-nil}
 use Prim.Native.Nat.{ℕ, zero, suc, ◌-◌, ◌<◌}
 use native.Mathlib.Omega.{arith}
@@ -18,7 +18,7 @@ use Rattle.journal.specs.Run.{started, run_from, run_of}
 use Rattle.journal.specs.Calls.{calls_from, places_from, calls_of, record_places, numbers_after, reply_numbers}
 use Rattle.journal.proofs.Reading.{next_above, next-within}
 use Rattle.journal.proofs.Turns.{turned, run_end, run_cut, run_unknown, run_record}
-use Rattle.journal.proofs.Calls.{event, calls_end, calls_cut, calls_unknown, calls_record, places_record}
+use Rattle.journal.proofs.Calls.{calls_end, calls_cut, calls_unknown, calls_record, places_record}
 use Rattle.desk.proofs.Lines.{ending, line-record, book_record, place_record, more_record}
 use Rattle.desk.specs.Replies.{reply_line, end_line, line_at, book_behind, place_behind, is_last, lines_from, replies_of}
 use Rattle.desk.specs.Promises.{lines_of, RepliesOfTheRun}
