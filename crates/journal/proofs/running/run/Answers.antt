@@ -192,10 +192,6 @@ loop-call-preserved-else-number-ne0-2 c =
       ready = record { count = omega arith; total_right = λ s. c.total_declared-total.ensures; reals_right = λ s. c.real_demands-reals.ensures };
     }
 
-pub slice_bounds-close_number-end : goal.slice_bounds-close_number-end
-slice_bounds-close_number-end c =
-    sym c.loop-call.invariant.ready.count
-
 pub counted-tally-requires-then-number-ne0-3 : goal.counted-tally-requires-then-number-ne0-3
 counted-tally-requires-then-number-ne0-3 c =
     fits c.loop-call.invariant.under c.read_at-read.ensures c.in-Record.is (omega arith)
