@@ -113,6 +113,7 @@ fn test_rest(enrolment: Enrolment, component: u32, answered: u32) -> u32
 
 // A test with its single fields in range. The component answers first, since only it goes through the readings: what it finds out of
 // range is 3; then come 4, 6, 7 and 8.
+#[tactic(auto, unfolding(power::specs::Power::test_of, crate::specs::Units::test_rest, crate::specs::Units::tested_unit))]
 pub(crate) fn test_answer(
     stage: Stage,
     unit: Unit,
@@ -143,6 +144,7 @@ pub(crate) fn test_answer(
 }
 
 // An availability of a unit that is enrolled: 7, 9, or the unit with its component's availability.
+#[tactic(auto, unfolding(plant::specs::Availability::availability_of, crate::specs::Units::availability_rest))]
 fn entered_availability(
     unit: Unit,
     entry: Entry,
@@ -168,6 +170,7 @@ fn entered_availability(
 }
 
 // An availability: 6, and what is left for an enrolled unit.
+#[tactic(auto, unfolding(crate::specs::Units::availability_rest, crate::specs::Units::available_unit))]
 pub(crate) fn availability_answer(
     unit: Unit,
     component: u32,
