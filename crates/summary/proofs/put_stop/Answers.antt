@@ -19,7 +19,7 @@ returns-then-stop-eq0 c =
 pub returns : goal.returns
 unfolding stop_line bytes
 returns c =
-    rw (ne_eqb c.args.stop 0 c.if-stop-eq0.false)
+    rw (ne_eqb c.args.stop 0 (omega arith))
     (puts_within (omega arith)
     (puts_more (omega arith) c.put_text-byte.ensures
     (λ h. puts_more h c.put_figure-colon.ensures
