@@ -19,7 +19,6 @@ use Rattle.quantities.specs.Flags.{flagged, injection_given}
 use Rattle.power.specs.declared.component.Cap.TheVariants.{At}
 use Rattle.table.specs.Records as name
 use Rattle.table.proofs.Laws.{Numbered}
-use Rattle.state.specs.declared.kept.Unit.{Unit}
 use Rattle.state.specs.declared.kept.Consumer.{Consumer}
 use Rattle.state.specs.declared.kept.Book.{Book}
 use Rattle.state.specs.State.{fresh_book, firm_demand_by, row_of}
