@@ -5,19 +5,13 @@ use Prim.Native.Nat.{ℕ}
 use native.Mathlib.Omega.{arith}
 use Rattle.basis.specs.Numbers.{written}
 use Rattle.listing.specs.Listing.{listing_of}
-use Rattle.listing.proofs.Answers.{as_long, front, front_length, lists_refused, lists_put}
+use Rattle.listing.proofs.Answers.{as_long, front, lists_refused, lists_put}
 use Rattle.listing.proofs.put_listing.Goals as goal
 
 pub returns-then-out-size : goal.returns-then-out-size
 returns-then-out-size c =
     let p = c.put_run-size.ensures in
     lists_refused (listing_of c.args.run) p.short c.args.out.now (omega (arith, as_long p))
-
-pub slice_bounds-put_text-end : goal.slice_bounds-put_text-end
-slice_bounds-put_text-end c = front_length c.put_run-size.ensures
-
-pub put_text-requires : goal.put_text-requires
-put_text-requires c = omega (arith, front_length c.put_run-size.ensures)
 
 pub returns : goal.returns
 returns c =
