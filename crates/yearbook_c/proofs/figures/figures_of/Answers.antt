@@ -25,4 +25,4 @@ returns c =
     let n = c.named_of-named.result in
     let fits : Below (2 ^ 64) (r.read ∷ r.accepted ∷ r.refused ∷ r.stop ∷ r.place ∷ n.count ∷ n.place ∷ n.number ∷ []) =
     one_more (omega arith) (one_more (omega arith) (one_more (omega arith) (one_more (omega arith) (one_more (omega arith) (one_more (omega arith) (one_more (omega arith) (one_more (omega arith) (none (omega arith)))))))))
-    in (rw c.named_of-named.ensures, fits.each)
+    in record { value = rw c.named_of-named.ensures; by_index = fits.each }

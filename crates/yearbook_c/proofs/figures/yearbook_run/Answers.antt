@@ -8,4 +8,4 @@ returns-then-figures-lt-FIGURES_SIZE c = figures_refused c.args.journal.now c.ar
 pub returns : goal.returns
 returns c =
     let a = c.args in
-    figures_put a.journal.now a.figures.now c.if-figures-lt-FIGURES_SIZE.false c.run.ensures c.figures_of-told.ensures.0 c.figures_of-told.ensures.1 c.put_numbers.ensures
+    figures_put a.journal.now a.figures.now c.if-figures-lt-FIGURES_SIZE.false c.run.ensures c.figures_of-told.ensures.value c.figures_of-told.ensures.by_index c.put_numbers.ensures
