@@ -40,9 +40,6 @@ module _ {m n : ℕ} {text old new : List ℕ} (put : Puts m text old 0 n new) w
   pub front : take n new ≡ text
   front = ap (take n) put.bytes ∙ take_at text (drop (0 + length text) old) n (sym as_long)
 
-  pub front_length : n ≡ length (take n new)
-  front_length = as_long ∙ ap length (sym front)
-
 -- with number 0 the size is that of the text
 pub listed-size : (text : List ℕ) (room : ℕ) → (listed_of text room).number ≡ 0 → (listed_of text room).size ≡ length text
 unfolding listed_of
