@@ -8,6 +8,7 @@ use state::{BLANK, Book, Reply, Stage, stage_number};
 use table::Call;
 
 // The book of a year that begins.
+#[tactic(auto, unfolding(crate::specs::Year::begun))]
 fn begin(book: Book, hours: Hours) -> Book
     ensures { result ≡ begun book hours.nhrm hours.nhmd hours.ndhmd }
 {
@@ -33,6 +34,7 @@ fn begin(book: Book, hours: Hours) -> Book
 }
 
 // The number of a year: 3, 4, or 0. Nothing is changed.
+#[tactic(auto, unfolding(crate::specs::Year::year_number_by))]
 pub fn year_number(stage: Stage, nhrm: u32, nhmd: u32, ndhmd: u32) -> u32
     ensures { result ≡ year_number_by stage nhrm nhmd ndhmd }
 {
@@ -47,6 +49,7 @@ pub fn year_number(stage: Stage, nhrm: u32, nhmd: u32, ndhmd: u32) -> u32
 }
 
 // A year: hours of its stage of greatest thermal requirement, its hours of maximum demand, and those per day.
+#[tactic(auto, unfolding(crate::specs::Year::year_of, crate::specs::Year::year_number_by))]
 pub fn year(book: Book, nhrm: u32, nhmd: u32, ndhmd: u32) -> Reply
     ensures { result ≡ year_of book nhrm nhmd ndhmd }
 {

@@ -16,6 +16,7 @@ use state::{Book, Reply};
 use table::{Call, ConsumerCall, ContractCall, UnitCall};
 
 // Any call, with the readings lent to a test.
+#[tactic(auto, unfolding(crate::specs::Step::step_of))]
 pub fn step(book: Book, call: Call, readings: &[u8]) -> Reply
     ensures { result ≡ step_of book call readings.now }
 {
