@@ -5,7 +5,7 @@ use Prim.Native.Nat.{ℕ, zero, suc, ◌+◌, ◌-◌, ◌*◌, ◌/◌, ◌%◌
 use native.Mathlib.Nat.{pow-succ', pow-le-pow_right, mul_comm, add-zero, add-suc, suc-add, add_assoc, mod-lt, div-add-mod', mul-le-mul_left, le_refl, mul-suc, zero-lt-suc, add-mul-div_left, add-mul-mod_self_left, mod-eq_of_lt, div-eq_of_lt, div-lt_iff_lt-mul}
 use native.Mathlib.Omega.{arith}
 use lib.ListN.{length, get_or, set, take, drop, length-append, length-take, length-drop, length-set, take-append-drop}
-use lib.Seq.{drop-cons, take-suc-set, drop-set-lt, drop-drop, take-append-le, drop-append-le, take_at, drop_at, length-take-le, get_or-drop, get_or-take, drop-append-add, take-append-add}
+use lib.Seq.{drop-cons, take-suc-set, drop-set-lt, get_or-drop}
 use Rattle.basis.specs.Numbers.{Bytes, number, bytes_of, number_at, written, all_bytes_of}
 
 pub number-nil : number [] ≡ 0

@@ -1,9 +1,9 @@
 use mathlib.Core.Path.{◌≡◌, refl, ◌∙◌}
-use Prim.Native.Nat.{ℕ, suc, ◌+◌, ◌-◌, ◌^◌, ◌≤◌, ◌<◌}
+use Prim.Native.Nat.{suc, ◌+◌, ◌-◌}
 use native.Mathlib.Nat.{pow-le-pow_right, sub_self, sub-zero, add-zero}
 use native.Mathlib.Omega.{arith}
-use lib.ListN.{length, get_or}
-use Rattle.basis.specs.Numbers.{number, number_at}
+use lib.ListN.{get_or}
+use Rattle.basis.specs.Numbers.{number}
 use Rattle.basis.proofs.Numbers.{digit_more, read_more}
 use Rattle.basis.proofs.number_at.Goals as goal
 

@@ -1,8 +1,8 @@
 -- `basis::number_at` meets its contract. The invariant: x is the number of the bytes from i on, which are width - i.
 -- Assumes nothing.
-use mathlib.Core.Path.{◌≡◌, refl, ◌∙◌}
-use Prim.Native.Nat.{ℕ, suc, ◌+◌, ◌-◌, ◌^◌, ◌≤◌, ◌<◌}
-use Rattle.basis.specs.Numbers.{number, number_at}
+use mathlib.Core.Path.{◌≡◌}
+use Prim.Native.Nat.{◌+◌, ◌-◌, ◌^◌, ◌≤◌, ◌<◌}
+use Rattle.basis.specs.Numbers.{number_at}
 use Rattle.basis.proofs.number_at.Given as goal
 
 abbrev pub invariant-loop-i : goal.invariant-loop-i

@@ -1,10 +1,8 @@
 use mathlib.Core.Path.{◌≡◌, refl, sym, ap, ◌∙◌}
-use mathlib.Core.List.{List}
-use Prim.Native.Nat.{ℕ, suc, ◌+◌, ◌-◌, ◌%◌, ◌/◌, ◌≤◌, ◌<◌}
-use native.Mathlib.Nat.{add-zero, sub-zero, sub_self}
-use native.Mathlib.Numerals.{add-one}
+use Prim.Native.Nat.{suc, ◌+◌, ◌-◌, ◌%◌, ◌/◌}
+use native.Mathlib.Nat.{add-zero, sub-zero}
 use native.Mathlib.Omega.{arith}
-use lib.ListN.{length, set, length-set}
+use lib.ListN.{set, length-set}
 use Rattle.basis.specs.Numbers.{bytes_of, written}
 use Rattle.basis.proofs.Numbers.{written_none, written-cons}
 use Rattle.basis.proofs.put_number.Goals as goal

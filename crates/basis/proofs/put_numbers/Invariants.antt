@@ -1,10 +1,10 @@
 -- `basis::put_numbers` meets its contract. The invariant: with the numbers still to come written over it, the buffer is what it is to be.
 -- Assumes nothing.
-use mathlib.Core.Path.{◌≡◌, refl, sym, ap, ◌∙◌}
+use mathlib.Core.Path.{◌≡◌}
 use mathlib.Core.List.{List}
-use Prim.Native.Nat.{ℕ, suc, ◌+◌, ◌-◌, ◌*◌, ◌≤◌, ◌<◌}
-use lib.ListN.{length, get_or, drop, drop_of_length-le, length-append}
-use Rattle.basis.specs.Numbers.{bytes_of, all_bytes_of, written}
+use Prim.Native.Nat.{ℕ, ◌+◌, ◌-◌, ◌≤◌}
+use lib.ListN.{length, drop}
+use Rattle.basis.specs.Numbers.{all_bytes_of, written}
 use Rattle.basis.proofs.put_numbers.Given as goal
 
 -- the bytes of the numbers from i on
