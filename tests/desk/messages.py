@@ -71,8 +71,10 @@ def expect(name, words, output, said, given=b"", closed=None, to=subprocess.PIPE
         [PROGRAM, *words], stdout=to, stderr=subprocess.PIPE, env=environment, preexec_fn=None if closed is None else lambda: os.close(closed), **source
     )
     got = (run.stdout or b"").decode(), run.stderr.decode()
-    if got != (output, said) or run.returncode != status:
-        sys.exit(f"test-desk: FAILED, {name}, status {run.returncode}:\n{got[0]}--- standard error\n{got[1]}--- wanted\n{output}--- standard error\n{said}")
+    # the status as a shell tells it, of a program that a signal ended too
+    told = run.returncode if run.returncode >= 0 else 128 - run.returncode
+    if got != (output, said) or told != status:
+        sys.exit(f"test-desk: FAILED, {name}, status {told}:\n{got[0]}--- standard error\n{got[1]}--- wanted\n{output}--- standard error\n{said}")
 
 
 def file(name):
@@ -228,7 +230,7 @@ for words in [], ["run"], ["page"]:
 for words in [], ["replies"], ["run"], ["page"]:
     piece, end = os.pipe()
     os.close(piece)
-    expect("a reader that leaves", words, "", J_SAID, J, to=end, status=-signal.SIGPIPE)
+    expect("a reader that leaves", words, "", J_SAID, J, to=end, status=128 + signal.SIGPIPE)
     os.close(end)
 
 # the manual's table of mistakes: J without its refused line, changed
