@@ -226,7 +226,7 @@ with open("/dev/full", "wb") as full:
 for words in [], ["run"], ["page"]:
     expect("no standard output", words, "", J_SAID + "yearbook: standard output: Bad file descriptor\n", J, closed=1)
 
-# whoever reads leaves: the system ends the program, but what is wrong was said before
+# whoever reads leaves: the program ends, as a shell tells of one that the system ended, but what is wrong was said before
 for words in [], ["replies"], ["run"], ["page"]:
     piece, end = os.pipe()
     os.close(piece)
