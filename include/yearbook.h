@@ -99,7 +99,7 @@ extern "C" {
  *
  * Journal, buffer and length may not overlap, no two of them.
  *
- * There is no state and no allocation; less than 100 kB of stack are used.
+ * There is no state and no allocation; less than 200 kB of stack are used.
  * Calls may run in parallel as long as no thread writes to a buffer that
  * another one's call was given.
  */
