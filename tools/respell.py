@@ -24,15 +24,15 @@ RESPELLED = """
     add-at add-total add-wide adds-one after-is afterTest all-found all-small answerOf as-before as-long at-least at-most at-most-one at-one
     atPlace both-true by-number by-rows bytes-drop bytes-left bytes-take bytesOf callOf callsOf capOf cast-unsigned cellOf close-spec closedIn
     count-small countTo counted-spec covered-next cut-or cut-short decimal-digit declaredBy digits-3 digits-4 either-way entryOf enum-told
-    fieldAt fields-in fields-out fieldsOf fill-more flagsOf formOf found-here fresh-kept front-length getD-map goes-on if-none in-between in-
-    order in-row isA isLast joined-same known-at known-in length-fields length-more length-to limit-is lineAt lineFor lineOf lines-more
-    linesFrom linesOf listedOf main-spec mul-wide nameOf namedOf no-lines no-number no-part no-place no-stop none-in none-named not-end not-
-    named nothing-said nothing-yet number-by number-in number-is numberIn odd-refused of-parts one-at-most one-line one-more orElse out-of-range
-    ownedBy owns-none pageOf pair-of part-at partOf partsOf pick-same placeOf power-small puts-none puts-then quotient-fits read-length read-
-    more rest-more restOf row-before row-next row-other rowOf run-end run-ends run-spec runFrom runOf same-count same-length same-number same-
-    numbers same-place same-power same-units signedOf size-of stage-is step-kept step-spec stepOf stored-at sub-row sum-done sum-zeros tableOf
-    test-in testOf text-in textOf the-number too-short total-kept total-right unit-kept unit-lawful unitAt unitOf write-kept write-spec written-
-    as written-none writtenBy
+    fieldAt fields-in fields-out fieldsOf fill-more flagsOf formOf found-here fresh-kept front-length getD-map goes-on if-none in-between
+    in-order in-row isA isLast joined-same known-at known-in length-fields length-more length-to limit-is lineAt lineFor lineOf lines-more
+    linesFrom linesOf listedOf main-spec mul-wide nameOf namedOf no-lines no-number no-part no-place no-stop none-in none-named not-end
+    not-named nothing-said nothing-yet number-by number-in number-is numberIn odd-refused of-parts one-at-most one-line one-more orElse
+    out-of-range ownedBy owns-none pageOf pair-of part-at partOf partsOf pick-same placeOf power-small puts-none puts-then quotient-fits
+    read-length read-more rest-more restOf row-before row-next row-other rowOf run-end run-ends run-spec runFrom runOf same-count same-length
+    same-number same-numbers same-place same-power same-units signedOf size-of stage-is step-kept step-spec stepOf stored-at sub-row sum-done
+    sum-zeros tableOf test-in testOf text-in textOf the-number too-short total-kept total-right unit-kept unit-lawful unitAt unitOf write-kept
+    write-spec written-as written-none writtenBy
 """.split()
 MODULES = {"decision/specs/Contracts.antt": "decision/specs/ContractCalls.antt"}
 
