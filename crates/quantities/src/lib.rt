@@ -1,11 +1,13 @@
-// The limits of document 01, each once: "Quantities", the ranges of "Journal records", "Division by shares"; and the flags of a unit.
+// The limits of document 01, each once: "Quantities", the ranges of "Journal records", "Division by shares"; the flags of a unit, and the numbered replies.
 #![tactic(auto)]
 
 mod flags; // flags.rt: the flags of a unit
+mod refusals; // refusals.rt: the numbered replies
 
 pub use flags::{
     ALL_FLAGS, FIRST_YEAR, FORCED_GENERATION, INJECTION_GIVEN, REPORT_HELD, SECOND_YEAR, is_flagged,
 };
+pub use refusals::{Refusal, number_met};
 
 // Units, producers and consumers that a book has room for.
 pub const UNITS: usize = 48;
