@@ -2,140 +2,99 @@
 // start of each: what was read, the number of its call, and what the writer makes of it.
 #![tactic(auto)]
 
+ghost use Rattle.std.specs.Prelude.{length};
+ghost use Rattle.std.specs.Iterator.{at_most};
+
 use record::{Call, Read};
-use std::io::{self, BufReader, BufWriter, ErrorKind, Write};
-use table::{FIELDS, fields_of};
+use std::alloc::Global;
+use std::fmt;
+use std::io::{self, BufWriter, Read as _, Write};
+use table::fields_of;
 
-// The bytes of an item, and of a record, at most.
-const BUFFER: usize = 4096;
+// The items of an input, up to the first that is cut short.
+#[derive(Drop)]
+struct Items<'a>(&'a [u8]);
 
-fn put<W: Write>(out: &mut W, text: &[u8]) -> io::Result<()> {
-    out.write_all(text)
-}
+impl<'a> Iterator for Items<'a> {
+    type Item = &'a [u8];
 
-// A blank and a number.
-fn put_number<W: Write>(out: &mut W, x: u64) -> io::Result<()> {
-    write!(out, " {x}")
-}
+    ghost remaining = { λ s. at_most (length s.0.now) };
 
-fn put_field<W: Write>(out: &mut W, x: u32) -> io::Result<()> {
-    put_number(out, x as u64)
+    fn next(&mut self) -> Option<&'a [u8]> {
+        let (size, rest) = self.0.split_first_chunk::<2>()?;
+        let (item, behind) = rest.split_at_checked(u16::from_le_bytes(*size).into())?;
+        self.0 = behind;
+        Some(item)
+    }
 }
 
 // Each byte as two hexadecimal digits.
-fn put_hex<W: Write>(out: &mut W, bytes: &[u8]) -> io::Result<()> {
-    for byte in bytes {
-        write!(out, "{byte:02x}")?;
+#[derive(Drop)]
+struct Hex<'a>(&'a [u8]);
+
+impl fmt::Display for Hex<'_> {
+    fn fmt<W: fmt::Write>(&self, f: &mut fmt::Formatter<W>) -> fmt::Result {
+        for byte in self.0 {
+            write!(f, "{byte:02x}")?;
+        }
+        Ok(())
     }
-    Ok(())
 }
 
-// The fields that a call's record has, in the table's order.
-fn put_fields<W: Write>(out: &mut W, call: Call) -> io::Result<()> {
+// The call's fields in the table's order.
+fn show_fields<W: Write>(out: &mut W, call: Call) -> io::Result<()> {
     let fields = fields_of(call);
-    let form = fields.form;
-    let widths = form.widths;
-    let values = fields.values;
-    for i in 0..FIELDS {
-        if widths[i] != 0 {
-            put_field(out, values[i])?;
+    for (width, value) in fields.form.widths.iter().zip(fields.values) {
+        if *width != 0 {
+            write!(out, " {value}")?;
         }
     }
     Ok(())
 }
 
 // What the writer makes of a call in a buffer of so many bytes: its number, or the record's bytes.
-fn put_written<W: Write>(out: &mut W, call: Call, readings: &[u8], size: usize) -> io::Result<()> {
-    let mut space = [0u8; BUFFER];
-    if BUFFER < size {
-        return Ok(());
-    }
-    let buffer = &mut space[..size];
-    let number = record::write(call, readings, buffer);
-    if number != 0 {
-        return put_field(out, number);
-    }
-    put(out, b" ")?;
-    put_hex(out, buffer)
-}
-
-fn show_record<W: Write>(
+fn show_written<W: Write>(
     out: &mut W,
-    item: &[u8],
     call: Call,
-    from: usize,
-    next: usize,
+    readings: &[u8],
+    mut buffer: Vec<u8>,
 ) -> io::Result<()> {
-    let readings = record::readings_of(item, from, next);
-    put(out, b"read ")?;
-    put_hex(out, record::readings_of(item, 0, 2))?;
-    put_number(out, next as u64)?;
-    put_fields(out, call)?;
-    put_field(out, record::call_number(call, readings))?;
-    put_written(out, call, readings, next)?;
-    put(out, b"\n")
+    match record::write(call, readings, &mut buffer) {
+        0 => writeln!(out, " {}", Hex(&buffer)),
+        number => writeln!(out, " {number}"),
+    }
 }
 
-fn show_stop<W: Write>(out: &mut W, read: Read) -> io::Result<()> {
-    put(out, b"stop")?;
-    put_field(out, record::stop_number(read))?;
-    put(out, b"\n")
-}
-
-fn show<W: Write>(out: &mut W, item: &[u8]) -> io::Result<()> {
-    let read = record::read_at(item, 0);
-    match read {
-        Read::End => put(out, b"end\n"),
-        Read::Cut => show_stop(out, read),
-        Read::Unknown => show_stop(out, read),
+// What stands at the start of an item: the mark and the size of a record, its fields, the number of its call and what the writer makes
+// of it; or why there is none.
+fn show<W: Write>(out: &mut W, alloc: Global, item: &[u8]) -> io::Result<()> {
+    match record::read_at(item, 0) {
+        Read::End => writeln!(out, "end"),
         Read::Record {
             call,
             readings,
             next,
-        } => show_record(out, item, call, readings, next),
-    }
-}
-
-// Fills the buffer with input; answers whether there was enough of it.
-fn fill<I: io::Read>(input: &mut I, buffer: &mut [u8]) -> io::Result<bool> {
-    match input.read_exact(buffer) {
-        Ok(()) => Ok(true),
-        Err(e) => {
-            if e.kind() == ErrorKind::UnexpectedEof {
-                return Ok(false);
-            }
-            Err(e)
+        } => {
+            let readings = record::readings_of(item, readings, next);
+            write!(
+                out,
+                "read {} {next}",
+                Hex(item.get(..2).unwrap_or_default())
+            )?;
+            show_fields(out, call)?;
+            write!(out, " {}", record::call_number(call, readings))?;
+            show_written(out, call, readings, vec![in alloc; 0; next]?)
         }
+        stop => writeln!(out, "stop {}", record::stop_number(stop)),
     }
 }
 
-// Reads an item of at most 4,096 bytes and shows it; answers whether there was one.
-fn next_item<I: io::Read, W: Write>(input: &mut I, out: &mut W) -> io::Result<bool> {
-    let mut head = [0u8; 2];
-    if !fill(input, &mut head)? {
-        return Ok(false);
-    }
-    let size = basis::number_at(&head, 0, 2) as usize;
-    if BUFFER < size {
-        return Ok(false);
-    }
-    let mut space = [0u8; BUFFER];
-    let item = &mut space[..size];
-    if !fill(input, item)? {
-        return Ok(false);
-    }
-    show(out, item)?;
-    Ok(true)
-}
-
-// The turns are counted, up to a number that no input uses up.
 fn main(rt: HostRuntime) -> io::Result<()> {
-    let mut input = BufReader::new(rt.alloc(), rt.reader())?;
+    let mut input = Vec::new(rt.alloc());
+    rt.stdin().read_to_end(&mut input)?;
     let mut out = BufWriter::new(rt.alloc(), io::writer(&rt))?;
-    for _ in 0..u64::MAX {
-        if !next_item(&mut input, &mut out)? {
-            break;
-        }
+    for item in Items(&input) {
+        show(&mut out, rt.alloc(), item)?;
     }
     out.flush()
 }
