@@ -1,81 +1,98 @@
-// A line of decimal numbers with one blank between, read and written.
-ghost use Rattle.std.specs.Prelude.{◌≤◌, ◌<◌, length};
-
+// The lines of the worked examples, in decimal numbers with blanks between.
+use plant::{Cap, Hours, Kw, Kwh, Plant};
 use std::io;
-use std::io::Write;
 
-// The most numbers of a line: a test with its greatest count and one more.
-pub const MOST: usize = 112;
-
-// The numbers of a line so far, and the one that is being read. Behind the last stand zeros.
-#[derive(Clone, Copy)]
-pub struct Line {
-    pub values: [u32; MOST],
-    pub count: usize,
-    pub value: u32,
+// A component of the unit, by its number.
+#[derive(Clone, Copy, PartialEq, Eq)]
+pub enum Part {
+    Set,
+    Generator,
+    Storage,
 }
 
-// The end of the line that starts at `at`, behind its line feed.
-pub fn line_end(s: &[u8], at: usize) -> usize
-    requires { at < length s.now }
-    ensures { (at < result) × (result ≤ length s.now) }
-{
-    let mut i = at;
-    while i < s.len() {
-        if s[i] == b'\n' {
-            return i + 1;
+impl TryFrom<u32> for Part {
+    type Error = io::Error;
+
+    fn try_from(number: u32) -> io::Result<Part> {
+        match number {
+            0 => Ok(Part::Set),
+            1 => Ok(Part::Generator),
+            2 => Ok(Part::Storage),
+            _ => Err(io::ErrorKind::InvalidData.into()),
         }
-        i += 1;
     }
-    i
 }
 
-// The number that was being read is the line's next.
-fn pushed(line: Line) -> Line {
-    let at = line.count;
-    if MOST <= at {
-        return line;
-    }
-    let mut next = line;
-    next.values[at] = line.value;
-    next.count = at + 1;
-    next.value = 0;
-    next
+// What a line asks for.
+#[derive(Clone, Copy)]
+pub enum Line<'a> {
+    // a new unit, without an answer
+    Unit(Cap),
+    // a test of a component: ending, TC, count, the bytes of the readings that are lent, and the readings
+    Test {
+        part: Part,
+        ending: u32,
+        tc: u32,
+        count: u32,
+        length: u32,
+        readings: &'a [u32],
+    },
+    // an availability of a component, minutes
+    Availability {
+        part: Part,
+        hd: u32,
+        hmp: u32,
+        hif: u32,
+        hed: u32,
+    },
+    // the firm offer
+    Offer {
+        plant: Plant,
+        hours: Hours,
+    },
+    // the efficient offers of units, of which flags and offer stand by turns
+    Efficient(&'a [u32]),
 }
 
-// A line with one byte more: a digit goes on with a number, all else ends it.
-fn with_byte(line: Line, b: u8) -> Line {
-    if b < b'0' {
-        return pushed(line);
-    }
-    if b'9' < b {
-        return pushed(line);
-    }
-    if 429_496_728 < line.value {
-        return line;
-    }
-    let mut next = line;
-    next.value = line.value * 10 + (b - b'0') as u32;
-    next
-}
+impl<'a> TryFrom<&'a [u32]> for Line<'a> {
+    type Error = io::Error;
 
-// The numbers of a line.
-pub fn line_of(s: &[u8]) -> Line {
-    let mut line = Line {
-        values: [0u32; MOST],
-        count: 0,
-        value: 0,
-    };
-    let mut i = 0;
-    while i < s.len() {
-        line = with_byte(line, s[i]);
-        i += 1;
+    fn try_from(numbers: &'a [u32]) -> io::Result<Line<'a>> {
+        match numbers {
+            [0, 0, _] => Ok(Line::Unit(Cap::Free)),
+            [0, _, pic] => Ok(Line::Unit(Cap::At(Kw(*pic)))),
+            [1, part, ending, tc, count, length, readings @ ..] => Ok(Line::Test {
+                part: Part::try_from(*part)?,
+                ending: *ending,
+                tc: *tc,
+                count: *count,
+                length: *length,
+                readings,
+            }),
+            [2, part, hd, hmp, hif, hed] => Ok(Line::Availability {
+                part: Part::try_from(*part)?,
+                hd: *hd,
+                hmp: *hmp,
+                hif: *hif,
+                hed: *hed,
+            }),
+            [3, kind, report, ppr, e1, e2, cap, nhrm, nhmd, ndhmd] => Ok(Line::Offer {
+                plant: Plant {
+                    kind: *kind,
+                    report: *report != 0,
+                    ppr: Kw(*ppr),
+                    e1: Kwh(*e1),
+                    e2: Kwh(*e2),
+                    cap: Kwh(*cap),
+                },
+                hours: Hours {
+                    nhrm: *nhrm,
+                    nhmd: *nhmd,
+                    ndhmd: *ndhmd,
+                },
+            }),
+            [4, units @ ..] => Ok(Line::Efficient(units)),
+            _ => Err(io::ErrorKind::InvalidData.into()),
+        }
     }
-    line
-}
-
-// Writes a number, and what follows it.
-pub fn write<W: Write>(out: &mut W, x: u32, after: &[u8]) -> io::Result<()> {
-    write!(out, "{x}")?;
-    out.write_all(after)
 }
