@@ -4,8 +4,8 @@ use mathlib.Core.Bool.{Bool, true, false, not}
 use Prim.Native.Nat.{ℕ, ◌≤◌, ◌<◌}
 use borrow.Author.Tests.{not-true, not-false, le-leb, lt-leb}
 use lib.Dec.{leb}
+use Rattle.std.proofs.lemmas.Bool.{and_from, and_left, and_right}
 use Rattle.basis.specs.Choice.{pick, between}
-use Rattle.basis.proofs.Choice.{pick_same}
 
 -- a function's answer was no, or yes
 pub answered_no : {r x : Bool} → r ≡ x → not r ≡ true → x ≡ false
@@ -23,10 +23,10 @@ failed rest e = rw e
 
 -- x stands in its range, below it, or above it
 pub in_between : (low high x : ℕ) → low ≤ x → x ≤ high → between low high x ≡ true
-in_between low high x h k = passed (leb x high) (le-leb low x h) ∙ le-leb x high k
+in_between low high x h k = and_from (leb low x) (leb x high) (le-leb low x h) (le-leb x high k)
 
 pub below_range : (low high x : ℕ) → x < low → between low high x ≡ false
-below_range low high x h = failed (leb x high) (lt-leb low x h)
+below_range low high x h = and_left (leb low x) (leb x high) (lt-leb low x h)
 
 pub above_range : (low high x : ℕ) → high < x → between low high x ≡ false
-above_range low high x h = rw (lt-leb x high h) (pick_same (leb low x) false)
+above_range low high x h = and_right (leb low x) (leb x high) (lt-leb x high h)

@@ -1,6 +1,7 @@
 -- What an acceptance shows: a chain of tests that ends in 0 passed each of them.
 use mathlib.Core.Path.{◌≡◌, refl}
 use mathlib.Core.Bool.{Bool, true, false}
+use Rattle.std.proofs.lemmas.Bool.{and_parts}
 use Prim.Native.Nat.{ℕ, suc, ◌≤◌}
 use native.Mathlib.Omega.{arith}
 use borrow.Author.Tests.{leb-true, eqb-true, eqb-false}
@@ -24,7 +25,7 @@ both_true false b e = absurd (mathlib.Core.Bool.false≢true e)
 
 pub between_true : (low high x : ℕ) → between low high x ≡ true → (low ≤ x) × (x ≤ high)
 between_true low high x e =
-    let h = both_true (leb low x) (leb x high) e in (leb-true low x h.0, leb-true x high h.1)
+    let h = and_parts (leb low x) (leb x high) e in (leb-true low x h.0, leb-true x high h.1)
 
 -- both branches are the same
 pub pick_same : {A : Type 0} (t : Bool) (a : A) → pick t a a ≡ a

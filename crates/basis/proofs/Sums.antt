@@ -10,77 +10,61 @@ use native.Mathlib.Omega.{arith}
 use borrow.Author.Tests.{leb-true, le-leb}
 use lib.Dec.{leb}
 use lib.ListN.{length, get_or, set, take, drop, drop_of_length-le, replicate}
-use lib.Seq.{drop-cons}
+use lib.Seq.{take_all}
+use Rattle.std.specs.List.{sum_by}
+use Rattle.std.proofs.lemmas.Bool.{and_parts, and_from, false_from_ne_true}
+use Rattle.std.proofs.lemmas.List.Folds.{sum_by-replicate}
+use Rattle.std.proofs.lemmas.List.Sums.{sum_by-cons, sum_by-append, sum_by-set, sum_by_more, sum_by-drop_more, sum_by-take-drop}
 use Rattle.basis.specs.Sums.{sum, sum_up, all_at_most}
-use Rattle.basis.proofs.Choice.{both_true}
 
 pub sum-nil : sum [] ≡ 0
-unfolding sum
 sum-nil = refl
 
 pub sum-cons : (x : ℕ) (xs : List ℕ) → sum (x ∷ xs) ≡ x + sum xs
-unfolding sum
-sum-cons x xs = refl
+sum-cons x xs = sum_by-cons (λ (n : ℕ). n) x xs
 
 -- a list of zeros
 pub sum_zeros : (n : ℕ) → sum (replicate n 0) ≡ 0
-unfolding sum
-sum_zeros zero = refl
-sum_zeros (suc n) = omega (arith, sum_zeros n)
+sum_zeros n = sum_by-replicate (λ (x : ℕ). x) n 0 ∙ mul-zero n
 
 pub sum-append : (a b : List ℕ) → sum (a ++ b) ≡ sum a + sum b
-unfolding sum
-sum-append [] b = omega arith
-sum-append (x ∷ a) b = omega (arith, sum-append a b)
+sum-append a b = sum_by-append (λ (n : ℕ). n) a b
 
 pub at_most_sum : (l : List ℕ) (i : ℕ) → get_or l i 0 ≤ sum l
-unfolding sum
 at_most_sum [] i = zero-le
-at_most_sum (x ∷ l) zero = omega arith
-at_most_sum (x ∷ l) (suc i) = omega (arith, at_most_sum l i)
+at_most_sum (x ∷ l) zero = omega (arith, sum-cons x l)
+at_most_sum (x ∷ l) (suc i) = omega (arith, sum-cons x l, at_most_sum l i)
 
 -- one element changed
 pub sum-set : (l : List ℕ) (i v : ℕ) → i < length l → sum (set l i v) + get_or l i 0 ≡ sum l + v
-unfolding sum
-sum-set [] i v h = absurd (not-suc-le-zero h)
-sum-set (x ∷ l) zero v h = omega arith
-sum-set (x ∷ l) (suc i) v h = omega (arith, sum-set l i v (le_of_suc-le-suc h))
+sum-set l i v h = sum_by-set (λ (n : ℕ). n) l i v 0 h
 
 -- a sum of elements that are at most m each
 pub sum_at_most : (m : ℕ) (l : List ℕ) → ((k : ℕ) → get_or l k 0 ≤ m) → sum l ≤ length l * m
-unfolding sum
 sum_at_most m [] h = zero-le
 sum_at_most m (x ∷ l) h =
-    omega (arith, suc-mul (length l) m, h 0, sum_at_most m l (λ k. h (suc k)))
+    omega (arith, sum-cons x l, suc-mul (length l) m, h 0, sum_at_most m l (λ k. h (suc k)))
 
 pub sum_of_zeros : (l : List ℕ) → sum l ≡ 0 → (k : ℕ) → get_or l k 0 ≡ 0
 sum_of_zeros l e k = omega (arith, at_most_sum l k)
 
 -- what is passed and what is to come make the whole
 pub sum-parts : (i : ℕ) (l : List ℕ) → sum (take i l) + sum (drop i l) ≡ sum l
-unfolding sum
-sum-parts zero l = omega arith
-sum-parts (suc i) [] = omega arith
-sum-parts (suc i) (x ∷ l) = omega (arith, sum-parts i l)
+sum-parts i l = sum_by-take-drop (λ (n : ℕ). n) l i
 
 pub all_at_most_lem : (m : ℕ) (l : List ℕ) → all_at_most m l ≡ true → (k : ℕ) → get_or l k 0 ≤ m
-unfolding all_at_most
 all_at_most_lem m [] e k = zero-le
-all_at_most_lem m (x ∷ l) e zero = leb-true x m (both_true (leb x m) (all_at_most m l) e).0
-all_at_most_lem m (x ∷ l) e (suc k) = all_at_most_lem m l (both_true (leb x m) (all_at_most m l) e).1 k
+all_at_most_lem m (x ∷ l) e zero = leb-true x m (and_parts (leb x m) (all_at_most m l) e).0
+all_at_most_lem m (x ∷ l) e (suc k) = all_at_most_lem m l (and_parts (leb x m) (all_at_most m l) e).1 k
 
 pub at_most_all : (m : ℕ) (l : List ℕ) → ((k : ℕ) → k < length l → get_or l k 0 ≤ m) → all_at_most m l ≡ true
-unfolding all_at_most
 at_most_all m [] h = refl
-at_most_all m (x ∷ l) h = simp (le-leb x m (h 0 (omega arith)), at_most_all m l (λ k p. h (suc k) (omega arith)))
+at_most_all m (x ∷ l) h = and_from (leb x m) (all_at_most m l) (le-leb x m (h 0 (omega arith))) (at_most_all m l (λ k p. h (suc k) (omega arith)))
 
 -- one element above the limit is enough
 pub not_all_at_most : (m : ℕ) (l : List ℕ) (k : ℕ) → m < get_or l k 0 → all_at_most m l ≡ false
-not_all_at_most m l k h = go (all_at_most m l) refl
-  where
-    go : (t : Bool) → all_at_most m l ≡ t → all_at_most m l ≡ false
-    go true e = absurd (omega (arith, all_at_most_lem m l e k))
-    go false e = e
+not_all_at_most m l k h =
+    false_from_ne_true (all_at_most m l) (λ e. absurd (omega (arith, all_at_most_lem m l e k)))
 
 pub sum_up-zero : (f : ℕ → ℕ) → sum_up f 0 ≡ 0
 unfolding sum_up
@@ -126,6 +110,17 @@ unfolding sum_up
 sum_up_scaled c f zero = sym (mul-zero c)
 sum_up_scaled c f (suc n) = omega (arith, sum_up_scaled c f n, mul-add c (sum_up f n) (f n))
 
+-- a sum of something of each element, as a sum over the places
+module _ {X : Type 0} (f : X → ℕ) where
+  up_to : (l : List X) (d : X) (i : ℕ) → i ≤ length l → sum_by f (take i l) ≡ sum_up (λ k. f (get_or l k d)) i
+  unfolding sum_up
+  up_to l d zero h = refl
+  up_to l d (suc i) h =
+      rw (← add-one i) (sum_by_more f l i d (omega arith)) ∙ ap (λ s. s + f (get_or l i d)) (up_to l d i (omega arith))
+
+  pub sum_by_places : (l : List X) (d : X) → sum_by f l ≡ sum_up (λ k. f (get_or l k d)) (length l)
+  sum_by_places l d = ap (λ (m : List X). sum_by f m) (sym (take_all (length l) l (le_refl (length l)))) ∙ up_to l d (length l) (le_refl (length l))
+
 -- one term changed
 pub sum_up_changed : (f g : ℕ → ℕ) (n i : ℕ) → i < n → ((k : ℕ) → (k ≡ i → ⊥) → f k ≡ g k) → sum_up f n + g i ≡ sum_up g n + f i
 unfolding sum_up
@@ -137,21 +132,15 @@ sum_up_changed f g (suc n) i h e =
 
 -- a list's sum as a sum over its places
 pub sum_as_sum_up : (l : List ℕ) → sum l ≡ sum_up (λ k. get_or l k 0) (length l)
-unfolding sum sum_up
-sum_as_sum_up [] = refl
-sum_as_sum_up (x ∷ l) = ap (λ s. x + s) (sum_as_sum_up l) ∙ sym (first (λ k. get_or (x ∷ l) k 0) (length l))
-  where
-    first : (f : ℕ → ℕ) (n : ℕ) → sum_up f (suc n) ≡ f 0 + sum_up (λ k. f (suc k)) n
-    first f zero = omega arith
-    first f (suc n) = omega (arith, first f n)
+sum_as_sum_up l = sum_by_places (λ (n : ℕ). n) l 0
 
 -- one turn of a loop that sums: the next element leaves what is to come, and joins what is passed
 pub sum-next : (l : List ℕ) (i : ℕ) → i < length l → sum (drop i l) ≡ get_or l i 0 + sum (drop (i + 1) l)
-sum-next l i h = rw (add-one, drop-cons l i 0 h) (sum-cons (get_or l i 0) (drop (suc i) l))
+sum-next l i h = sum_by-drop_more (λ (n : ℕ). n) l i 0 h
 
 pub sum_passed : (l : List ℕ) (i : ℕ) → i < length l → sum (take (i + 1) l) ≡ sum (take i l) + get_or l i 0
-sum_passed l i h = omega (arith, sum-parts i l, sum-parts (i + 1) l, sum-next l i h)
+sum_passed l i h = sum_by_more (λ (n : ℕ). n) l i 0 h
 
 -- nothing is to come at the end
 pub sum_done : (l : List ℕ) (i : ℕ) → length l ≤ i → sum (drop i l) ≡ 0
-sum_done l i h = rw (drop_of_length-le l h) sum-nil
+sum_done l i h = rw (drop_of_length-le l h)

@@ -1,5 +1,6 @@
 -- Numbers written as bytes, low byte first.
 use Rattle.std.specs.Prelude.{List, [], ◌∷◌, ◌++◌, ℕ, zero, suc, ◌+◌, ◌*◌, ◌/◌, ◌%◌, ◌<◌, length, take, drop, get_or}
+use Rattle.std.specs.List.{flat_map}
 use Rattle.basis.specs.Tables.{tab}
 
 -- each element is a byte
@@ -30,5 +31,4 @@ numbers_of w n s = tab (λ i. number_at w s (w * i)) n
 
 -- the bytes of numbers one after the other, w bytes each
 unfoldable pub all_bytes_of : ℕ → List ℕ → List ℕ
-all_bytes_of w [] = []
-all_bytes_of w (x ∷ xs) = bytes_of w x ++ all_bytes_of w xs
+all_bytes_of w xs = flat_map (bytes_of w) xs

@@ -7,15 +7,14 @@ use native.Mathlib.Omega.{arith}
 use lib.ListN.{get_or, take, drop}
 use lib.Seq.{get_or-drop, get_or-take}
 use Rattle.basis.specs.Sums.{sum}
-use Rattle.basis.proofs.Sums.{at_most_sum}
+use Rattle.basis.proofs.Sums.{sum-cons, at_most_sum}
 
 -- one element more, also behind the end
 passed : (l : List ℕ) (i : ℕ) → sum (take (suc i) l) ≡ sum (take i l) + get_or l i 0
-unfolding sum
 passed [] zero = refl
 passed [] (suc i) = refl
 passed (x ∷ l) zero = omega arith
-passed (x ∷ l) (suc i) = omega (arith, passed l i)
+passed (x ∷ l) (suc i) = omega (arith, sum-cons x (take (suc i) l), sum-cons x (take i l), passed l i)
 
 pub row_next : (l : List ℕ) (from i : ℕ) → sum (take (i + 1) (drop from l)) ≡ sum (take i (drop from l)) + get_or l (from + i) 0
 row_next l from i = rw (add-one, ← get_or-drop from l i 0) (passed (drop from l) i)

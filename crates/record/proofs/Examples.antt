@@ -28,10 +28,10 @@ kind_nine = refl
 
 -- 15: 6 bytes for year
 pub six_bytes : write_number (Year 720 120 4) [] 6 ≡ 15
-unfolding write_number fields_number call_number within_all table_of parts_of rest_in_range readings_size form_of sum
+unfolding write_number fields_number call_number within_all table_of parts_of rest_in_range readings_size form_of
 six_bytes = refl
 
 -- 7 bytes are enough
 pub seven_bytes : write_number (Year 720 120 4) [] 7 ≡ 0
-unfolding write_number fields_number call_number within_all table_of parts_of rest_in_range readings_size form_of sum
+unfolding write_number fields_number call_number within_all table_of parts_of rest_in_range readings_size form_of
 seven_bytes = refl

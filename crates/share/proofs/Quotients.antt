@@ -6,7 +6,7 @@ use native.Mathlib.Nat.{mul-add, add-mul, mul-zero, zero-mul, div-add-mod', mod-
 use native.Mathlib.Omega.{arith}
 use lib.ListN.{length, get_or, take, length-map}
 use Rattle.basis.specs.Sums.{sum}
-use Rattle.basis.proofs.Sums.{sum-parts, sum_passed}
+use Rattle.basis.proofs.Sums.{sum-cons, sum-parts, sum_passed}
 use Rattle.share.specs.Division.{whole_parts, remainders}
 
 pub length-parts : (T W : ℕ) (ws : List ℕ) → length (whole_parts T W ws) ≡ length ws
@@ -32,10 +32,11 @@ remainder_at_lem T W (w ∷ ws) (suc i) = remainder_at_lem T W ws i
 
 -- whole parts times W, with what they leave, are T times the weights
 pub parts_and_rest : (T W : ℕ) (ws : List ℕ) → sum (whole_parts T W ws) * W + sum (remainders T W ws) ≡ T * sum ws
-unfolding whole_parts remainders sum
+unfolding whole_parts remainders
 parts_and_rest T W [] = rw (zero-mul W, mul-zero T)
 parts_and_rest T W (w ∷ ws) =
-    omega (arith, parts_and_rest T W ws, add-mul (T * w / W) (sum (map (λ v. T * v / W) ws)) W, div-add-mod' (T * w) W, mul-add T w (sum ws))
+    rw (sum-cons (T * w / W) (map (λ v. T * v / W) ws), sum-cons (T * w % W) (map (λ v. T * v % W) ws), sum-cons w ws)
+    (omega (arith, parts_and_rest T W ws, add-mul (T * w / W) (sum (map (λ v. T * v / W) ws)) W, div-add-mod' (T * w) W, mul-add T w (sum ws)))
 
 module _ (T : ℕ) (ws : List ℕ) (positive : 0 < sum ws) where
   pub parts_at_most : sum (whole_parts T (sum ws) ws) ≤ T

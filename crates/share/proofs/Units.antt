@@ -58,7 +58,6 @@ pub record Covered (W n : ℕ) (r : List ℕ) : Type 0 where
   pub all : n * W ≤ sum r
 
 pub some_element : (l : List ℕ) → 0 < sum l → 0 < length l
-unfolding sum
 some_element [] p = absurd (omega arith)
 some_element (x ∷ l) p = omega arith
 

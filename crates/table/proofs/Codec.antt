@@ -12,6 +12,7 @@ use Rattle.basis.specs.Choice.{pick, between}
 use Rattle.basis.specs.Numbers.{Bytes, number, bytes_of, number_at}
 use Rattle.basis.specs.Sums.{sum}
 use Rattle.basis.proofs.Choice.{both_true, between_true}
+use Rattle.basis.proofs.Sums.{sum-cons}
 use Rattle.basis.proofs.Numbers.{length-bytes_of, number-bytes_of, bytes_of-number, bytes_take, bytes_drop}
 use Rattle.table.specs.Fields.{encode, decode, within_all}
 
@@ -22,12 +23,12 @@ fit_all (w ∷ ws) [] = false
 fit_all (w ∷ ws) (g ∷ gs) = pick (ltb g (256 ^ w)) (fit_all ws gs) false
 
 pub length-encode : (ws vs : List ℕ) → length vs ≡ length ws → length (encode ws vs) ≡ sum ws
-unfolding encode sum
+unfolding encode
 length-encode [] vs h = refl
 length-encode (w ∷ ws) [] h = absurd (omega arith)
 length-encode (w ∷ ws) (v ∷ vs) h =
     length-append (bytes_of w v) (encode ws vs)
-    ∙ omega (arith, length-bytes_of w v, length-encode ws vs (omega arith))
+    ∙ omega (arith, sum-cons w ws, length-bytes_of w v, length-encode ws vs (omega arith))
 
 pub length-decode : (ws s : List ℕ) → length (decode ws s) ≡ length ws
 unfolding decode
@@ -51,20 +52,22 @@ decode-encode (w ∷ ws) (l ∷ ls) (g ∷ gs) (v ∷ vs) rest hl hv hf hw =
 
 -- bytes, read and written, are what they were
 pub encode-decode : (ws s : List ℕ) → Bytes s → sum ws ≤ length s → encode ws (decode ws s) ≡ take (sum ws) s
-unfolding encode decode sum
+unfolding encode decode
 encode-decode [] s h k = refl
 encode-decode (w ∷ ws) s h k =
+    let c = sum-cons w ws in
     let p : w ≤ length s = omega arith in
     let q : sum ws ≤ length (drop w s) = omega (arith, length-drop w s) in
     let e : bytes_of w (number (take w s)) ≡ take w s =
     ap (λ n. bytes_of n (number (take w s))) (sym (length-take-le w s p)) ∙ bytes_of-number (take w s) (bytes_take w s h) in
-    rw (e, encode-decode ws (drop w s) (bytes_drop w s h) q) (sym (take-add w (sum ws) s))
+    rw (c, e, encode-decode ws (drop w s) (bytes_drop w s h) q) (sym (take-add w (sum ws) s))
 
 -- what stands behind the fields is not read
 pub decode-append : (ws s more : List ℕ) → sum ws ≤ length s → decode ws (s ++ more) ≡ decode ws s
-unfolding decode sum
+unfolding decode
 decode-append [] s more k = refl
 decode-append (w ∷ ws) s more k =
+    let c = sum-cons w ws in
     let p : w ≤ length s = omega arith in
     let q : sum ws ≤ length (drop w s) = omega (arith, length-drop w s) in
     rw (take-append-le w s more p, drop-append-le w s more p, decode-append ws (drop w s) more q)
@@ -75,10 +78,10 @@ decode_part ws s n h = sym (decode-append ws (take n s) (drop n s) h) ∙ ap (de
 
 -- a field stands behind those before it, in its width; behind the last there is none
 pub decode_at : (ws s : List ℕ) (i : ℕ) → get_or (decode ws s) i 0 ≡ number_at (get_or ws i 0) s (sum (take i ws))
-unfolding decode sum number
+unfolding decode number
 decode_at [] s zero = refl
 decode_at [] s (suc i) = refl
 decode_at (w ∷ ws) s zero = refl
 decode_at (w ∷ ws) s (suc i) =
     decode_at ws (drop w s) i
-    ∙ ap (λ (l : List ℕ). number (take (get_or ws i 0) l)) (drop-drop (sum (take i ws)) w s)
+    ∙ ap (λ (l : List ℕ). number (take (get_or ws i 0) l)) (drop-drop (sum (take i ws)) w s ∙ ap (λ n. drop n s) (sym (sum-cons w (take i ws))))

@@ -19,7 +19,7 @@ use Rattle.table.proofs.Codec.{fit_all}
 use Rattle.table.proofs.Laws.{Lawful, lawful_by, OfParts, field_in_range, Numbered, numbered}
 
 pub contract_lawful : (m : ContractMark) → Lawful (mark.Contract m)
-unfolding table_of form_of contract_marks find_mark sum all_at_most fit_all parts_of call_of readings_size decode number
+unfolding table_of form_of contract_marks find_mark fit_all parts_of call_of readings_size decode number
 contract_lawful marked.Commit = lawful_by refl refl refl refl refl refl refl refl refl refl refl (λ v. omega arith) (λ v e. refl) (λ s e. refl)
 contract_lawful marked.Release = lawful_by refl refl refl refl refl refl refl refl refl refl refl (λ v. omega arith) (λ v e. refl) (λ s e. refl)
 

@@ -29,7 +29,7 @@ use Rattle.table.proofs.ConsumerLaws.{consumer_lawful, consumer_of_parts}
 use Rattle.table.proofs.ContractLaws.{contract_lawful, contract_of_parts}
 
 pub lawful : (m : Mark) → Lawful m
-unfolding table_of form_of contract_marks consumer_marks unit_marks book_marks find_mark sum all_at_most fit_all parts_of call_of readings_size decode number
+unfolding table_of form_of contract_marks consumer_marks unit_marks book_marks find_mark fit_all parts_of call_of readings_size decode number
 lawful mark.Year = lawful_by refl refl refl refl refl refl refl refl refl refl refl (λ v. omega arith) (λ v e. refl) (λ s e. refl)
 lawful mark.Fix = lawful_by refl refl refl refl refl refl refl refl refl refl refl (λ v. omega arith) (λ v e. refl) (λ s e. refl)
 lawful mark.Close = lawful_by refl refl refl refl refl refl refl refl refl refl refl (λ v. omega arith) (λ v e. refl) (λ s e. refl)

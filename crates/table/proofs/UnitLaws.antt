@@ -22,7 +22,7 @@ use Rattle.table.proofs.Codec.{fit_all}
 use Rattle.table.proofs.Laws.{Lawful, lawful_by, OfParts, test-length, field_in_range, Numbered, numbered}
 
 pub unit_lawful : (m : UnitMark) → Lawful (mark.Unit m)
-unfolding table_of form_of contract_marks consumer_marks unit_marks find_mark sum all_at_most fit_all parts_of call_of readings_size decode number
+unfolding table_of form_of contract_marks consumer_marks unit_marks find_mark fit_all parts_of call_of readings_size decode number
 unit_lawful marked.Enrol = lawful_by refl refl refl refl refl refl refl refl refl refl refl (λ v. omega arith) (λ v e. refl) (λ s e. refl)
 unit_lawful marked.Test = lawful_by refl refl refl refl refl refl refl refl refl refl refl (λ v. omega arith) (λ v e. refl) (λ s e. refl)
 unit_lawful marked.Availability = lawful_by refl refl refl refl refl refl refl refl refl refl refl (λ v. omega arith) (λ v e. refl) (λ s e. refl)

@@ -8,7 +8,6 @@ use Rattle.decision.proofs.Rows.{row_next}
 use Rattle.decision.proofs.contracts.row_sum.Goals as goal
 
 pub loop-i-init : goal.loop-i-init
-unfolding total
 loop-i-init c = (omega arith, refl, omega arith)
 
 pub loop-i-preserved : goal.loop-i-preserved

@@ -1,5 +1,5 @@
 use mathlib.Core.Path.{◌≡◌, sym, ap, ◌∙◌}
-use mathlib.Core.Bool.{Bool, true, false}
+use mathlib.Core.Bool.{Bool, true, false, ◌&&◌}
 use Prim.Native.Nat.{ℕ, ◌+◌, ◌≤◌}
 use native.Mathlib.Omega.{arith}
 use borrow.Author.Tests.{ne_eqb}
@@ -12,10 +12,10 @@ use Rattle.power.proofs.Readings.{readings_from, readings_end}
 use Rattle.power.proofs.ranges.readings_in_range.Goals as goal
 
 -- one reading more, above the greatest or not
-one_more : (excess : ℕ) (t rest : Bool) → pick (eqb excess 0) (pick t rest false) false ≡ pick (eqb (excess + pick t 0 1) 0) rest false
+one_more : (excess : ℕ) (t rest : Bool) → pick (eqb excess 0) (t && rest) false ≡ pick (eqb (excess + pick t 0 1) 0) rest false
 one_more excess true rest = let e : excess ≡ excess + 0 = omega arith in ap (λ n. pick (eqb n 0) rest false) e
 one_more excess false rest =
-    pick_same (eqb excess 0) false ∙ sym (ap (λ t. pick t rest false) (ne_eqb (excess + 1) 0 (λ q. absurd (omega arith))))
+    pick_same (eqb excess 0) false ∙ sym (ap (λ s. pick s rest false) (ne_eqb (excess + 1) 0 (λ q. absurd (omega arith))))
 
 -- 0 or 1
 small : (t : Bool) → pick t 0 1 ≤ 1
@@ -23,7 +23,6 @@ small true = omega arith
 small false = omega arith
 
 pub loop-i-preserved : goal.loop-i-preserved
-unfolding all_at_most
 loop-i-preserved c =
     let a = c.args in
     let l = c.loop-i in
@@ -33,7 +32,6 @@ loop-i-preserved c =
     (omega arith, omega (arith, b, small (leb x.result greatest_reading)), l.invariant.2 ∙ rw (readings_from a.count l.i s c.loop-i-test.true) (simp (← x.ensures, b, one_more)))
 
 pub returns : goal.returns
-unfolding all_at_most
 returns c =
     let a = c.args in
     let l = c.loop-i in

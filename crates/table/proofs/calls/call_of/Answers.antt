@@ -6,7 +6,7 @@ use Rattle.table.proofs.Codec.{decode_at}
 use Rattle.table.proofs.calls.call_of.Goals as goal
 
 pub returns-in-Year : goal.returns-in-Year
-unfolding table_of form_of call_of sum
+unfolding table_of form_of call_of
 returns-in-Year c = simp (
   c.in-Year.is,
   decode_at,
@@ -16,11 +16,11 @@ returns-in-Year c = simp (
 )
 
 pub returns-in-Fix : goal.returns-in-Fix
-unfolding table_of form_of call_of sum
+unfolding table_of form_of call_of
 returns-in-Fix c = simp (c.in-Fix.is, decode_at, c.field_at-in-Fix.ensures)
 
 pub returns-in-Close : goal.returns-in-Close
-unfolding table_of form_of call_of sum
+unfolding table_of form_of call_of
 returns-in-Close c = simp (c.in-Close.is, decode_at, c.field_at-in-Close.ensures)
 
 pub returns-in-Unit : goal.returns-in-Unit

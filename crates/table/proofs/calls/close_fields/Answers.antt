@@ -8,5 +8,5 @@ use Rattle.table.specs.Records.{table_of, form_of, parts_of}
 use Rattle.table.proofs.calls.close_fields.Goals as goal
 
 pub returns : goal.returns
-unfolding table_of form_of parts_of fields_of within_all sum
+unfolding table_of form_of parts_of fields_of within_all
 returns c = simp (alone, c.is_between.ensures)

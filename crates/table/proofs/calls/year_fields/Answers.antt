@@ -8,5 +8,5 @@ use Rattle.table.specs.Records.{table_of, form_of, parts_of}
 use Rattle.table.proofs.calls.year_fields.Goals as goal
 
 pub returns : goal.returns
-unfolding table_of form_of parts_of fields_of within_all sum
+unfolding table_of form_of parts_of fields_of within_all
 returns c = simp (alone, c.both-2.ensures, c.both.ensures, c.is_between-3.ensures, c.is_between-2.ensures, c.is_between.ensures)

@@ -6,7 +6,7 @@ use Rattle.table.proofs.Codec.{decode_at}
 use Rattle.table.proofs.consumers.consumer_call.Goals as goal
 
 pub returns-in-Declare : goal.returns-in-Declare
-unfolding table_of form_of call_of sum
+unfolding table_of form_of call_of
 returns-in-Declare c = simp (
   c.in-Declare.is,
   decode_at,
@@ -16,7 +16,7 @@ returns-in-Declare c = simp (
 )
 
 pub returns-in-Meter : goal.returns-in-Meter
-unfolding table_of form_of call_of sum
+unfolding table_of form_of call_of
 returns-in-Meter c = simp (
   c.in-Meter.is,
   decode_at,

@@ -8,7 +8,7 @@ use Rattle.table.specs.Records.{table_of, form_of, parts_of}
 use Rattle.table.proofs.consumers.consumer_fields.Goals as goal
 
 pub returns-in-Declare : goal.returns-in-Declare
-unfolding table_of form_of parts_of fields_of within_all sum
+unfolding table_of form_of parts_of fields_of within_all
 returns-in-Declare c = simp (
   c.in-Declare.is,
   alone,
@@ -20,7 +20,7 @@ returns-in-Declare c = simp (
 )
 
 pub returns-in-Meter : goal.returns-in-Meter
-unfolding table_of form_of parts_of fields_of within_all sum
+unfolding table_of form_of parts_of fields_of within_all
 returns-in-Meter c = simp (
   c.in-Meter.is,
   alone,

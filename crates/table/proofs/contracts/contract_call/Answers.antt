@@ -6,7 +6,7 @@ use Rattle.table.proofs.Codec.{decode_at}
 use Rattle.table.proofs.contracts.contract_call.Goals as goal
 
 pub returns-in-Commit : goal.returns-in-Commit
-unfolding table_of form_of call_of sum
+unfolding table_of form_of call_of
 returns-in-Commit c = simp (
   c.in-Commit.is,
   decode_at,
@@ -16,7 +16,7 @@ returns-in-Commit c = simp (
 )
 
 pub returns-in-Release : goal.returns-in-Release
-unfolding table_of form_of call_of sum
+unfolding table_of form_of call_of
 returns-in-Release c = simp (
   c.in-Release.is,
   decode_at,

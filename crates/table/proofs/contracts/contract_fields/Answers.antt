@@ -8,7 +8,7 @@ use Rattle.table.specs.Records.{table_of, form_of, parts_of}
 use Rattle.table.proofs.contracts.contract_fields.Goals as goal
 
 pub returns-in-Commit : goal.returns-in-Commit
-unfolding table_of form_of parts_of fields_of within_all sum
+unfolding table_of form_of parts_of fields_of within_all
 returns-in-Commit c = simp (
   c.in-Commit.is,
   alone,
@@ -20,7 +20,7 @@ returns-in-Commit c = simp (
 )
 
 pub returns-in-Release : goal.returns-in-Release
-unfolding table_of form_of parts_of fields_of within_all sum
+unfolding table_of form_of parts_of fields_of within_all
 returns-in-Release c = simp (
   c.in-Release.is,
   alone,

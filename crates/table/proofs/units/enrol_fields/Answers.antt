@@ -8,7 +8,7 @@ use Rattle.table.specs.Records.{table_of, form_of, parts_of}
 use Rattle.table.proofs.units.enrol_fields.Goals as goal
 
 pub returns : goal.returns
-unfolding table_of form_of parts_of fields_of within_all sum
+unfolding table_of form_of parts_of fields_of within_all
 returns c = simp (
   alone,
   c.both-8.ensures,

@@ -6,7 +6,7 @@ use Rattle.table.proofs.Codec.{decode_at}
 use Rattle.table.proofs.units.unit_call.Goals as goal
 
 pub returns-in-Enrol : goal.returns-in-Enrol
-unfolding table_of form_of call_of sum
+unfolding table_of form_of call_of
 returns-in-Enrol c = simp (
   c.in-Enrol.is,
   decode_at,
@@ -22,7 +22,7 @@ returns-in-Enrol c = simp (
 )
 
 pub returns-in-Test : goal.returns-in-Test
-unfolding table_of form_of call_of sum
+unfolding table_of form_of call_of
 returns-in-Test c = simp (
   c.in-Test.is,
   decode_at,
@@ -34,7 +34,7 @@ returns-in-Test c = simp (
 )
 
 pub returns-in-Availability : goal.returns-in-Availability
-unfolding table_of form_of call_of sum
+unfolding table_of form_of call_of
 returns-in-Availability c = simp (
   c.in-Availability.is,
   decode_at,
