@@ -1,11 +1,15 @@
 -- Numbers as bytes, low byte first: one law for every width.
 use mathlib.Core.Path.{◌≡◌, refl, sym, ap, ◌∙◌}
-use mathlib.Core.List.{List, [], ◌∷◌, ◌++◌, append_assoc}
+use mathlib.Core.List.{List, [], ◌∷◌, ◌++◌, append_assoc, append-nil}
 use Prim.Native.Nat.{ℕ, zero, suc, ◌+◌, ◌-◌, ◌*◌, ◌/◌, ◌%◌, ◌^◌, ◌≤◌, ◌<◌}
-use native.Mathlib.Nat.{pow-succ', pow-le-pow_right, mul_comm, add-zero, add-suc, suc-add, add_assoc, mod-lt, div-add-mod', mul-le-mul_left, le_refl, mul-suc, zero-lt-suc, add-mul-div_left, add-mul-mod_self_left, mod-eq_of_lt, div-eq_of_lt, div-lt_iff_lt-mul}
+use native.Mathlib.Nat.{pow-succ', pow-le-pow_right, mul_comm, mul_assoc, mul-add, add-zero, zero-add, add-suc, suc-add, add_assoc, mod-lt, div-add-mod', mul-le-mul_left, le_refl, mul-suc, zero-lt-suc, add-mul-div_left, add-mul-mod_self_left, mod-eq_of_lt, div-eq_of_lt, div-lt_iff_lt-mul}
 use native.Mathlib.Omega.{arith}
 use lib.ListN.{length, get_or, set, take, drop, length-append, length-take, length-drop, length-set, take-append-drop}
-use lib.Seq.{drop-cons, take-suc-set, drop-set-lt, get_or-drop}
+use lib.Seq.{drop-cons, take-suc-set, drop-set-lt, get_or-drop, take_all, length-take-le, drop-drop}
+use borrow.Rule.Slice.PartMut.{put_mid}
+use Rattle.std.specs.List.{flat_map}
+use Rattle.std.proofs.lemmas.List.{take_more, take_more_set}
+use Rattle.std.proofs.lemmas.List.Concat.{flat_map-append}
 use Rattle.basis.specs.Numbers.{Bytes, number, bytes_of, number_at, written, all_bytes_of}
 
 pub number-nil : number [] ≡ 0
@@ -106,9 +110,63 @@ module _ {A : Type 0} where
 pub digit_more : (w x b : ℕ) → x < 256 ^ w → b < 256 → x * 256 + b < 256 ^ suc w
 digit_more w x b h p = rw (pow-succ' 256 w) (omega arith)
 
--- the turn of a reading from the last byte to the first
-pub read_more : (s : List ℕ) (at w i x : ℕ) → 0 < i → i ≤ w → at + w ≤ length s → x ≡ number_at (w - i) s (at + i) → x * 256 + get_or s (at + (i - 1)) 0 ≡ number_at (w - (i - 1)) s (at + (i - 1))
-read_more s at w i x p q h e =
-    let n : w - (i - 1) ≡ suc (w - i) = omega arith in
-    let k : suc (at + (i - 1)) ≡ at + i = omega arith in
-    rw n (rw (number_at_more (w - i) s (at + (i - 1)) (omega arith), k, ← e) (omega arith))
+-- a byte behind the others counts 256 times for each of them
+pub number_push : (s : List ℕ) (b : ℕ) → number (s ++ b ∷ []) ≡ number s + 256 ^ length s * b
+unfolding number
+number_push [] b = omega arith
+number_push (c ∷ s) b =
+    rw (pow-succ' 256 (length s), mul_assoc 256 (256 ^ length s) b) (omega (arith, number_push s b))
+
+-- the turn of a reading from the last byte to the first: of some bytes, one more is read
+pub read_more : (left more : List ℕ) (b x : ℕ) → more ≡ left ++ b ∷ [] → number left + 256 ^ length left * (x * 256 + b) ≡ number more + 256 ^ length more * x
+read_more left more b x e =
+    let n : length more ≡ suc (length left) = ap length e ∙ length-append left (b ∷ []) ∙ omega arith in
+    let p = 256 ^ length left in
+    let q : p * (x * 256 + b) ≡ p * b + 256 * p * x = mul-add p (x * 256) b ∙ omega (arith, mul_assoc p x 256, mul_comm (p * x) 256, mul_assoc 256 p x) in
+    rw (n, pow-succ' 256 (length left), e, number_push left b) (omega arith)
+
+-- no byte is left
+pub all_read : (left : List ℕ) (x : ℕ) → length left ≡ 0 → x ≡ number left + 256 ^ length left * x
+unfolding number
+all_read [] x e = omega arith
+all_read (b ∷ left) x e = absurd (omega arith)
+
+-- the turn of a writing: the next byte joins those that are written
+pub write_more : (out : List ℕ) (i w x y : ℕ) → i < length out → i < w → take i out ++ bytes_of (w - i) y ≡ bytes_of w x → take (i + 1) (set out i (y % 256)) ++ bytes_of (w - (i + 1)) (y / 256) ≡ bytes_of w x
+unfolding bytes_of
+write_more out i w x y h k e =
+    let n : w - i ≡ suc (w - (i + 1)) = omega arith in
+    rw (take_more_set out i (y % 256) h) (append_assoc (take i out) (y % 256 ∷ []) (bytes_of (w - (i + 1)) (y / 256)) ∙ ap (λ m. take i out ++ bytes_of m y) (sym n) ∙ e)
+
+-- nothing is to come
+pub all_written : (out : List ℕ) (i w x y : ℕ) → length out ≤ i → w ≤ i → take i out ++ bytes_of (w - i) y ≡ bytes_of w x → out ≡ bytes_of w x
+unfolding bytes_of
+all_written out i w x y h k e =
+    let z : w - i ≡ 0 = omega arith in
+    sym (append-nil out) ∙ ap (λ (l : List ℕ). l ++ []) (sym (take_all i out h)) ∙ ap (λ m. take i out ++ bytes_of m y) (sym z) ∙ e
+
+-- the part of a list that is put in its place
+pub put_whole : (old : List ℕ) (at w : ℕ) (part new : List ℕ) → length new ≡ w → part ≡ new → put_mid at (at + w - at) old part ≡ written old at new
+put_whole old at w part new n e =
+    rw (e, n) (ap (λ (l : List ℕ). take at old ++ (new ++ l)) (drop-drop (at + w - at) at old ∙ ap (λ k. drop k old) (let k : at + (at + w - at) ≡ at + w = omega arith in k)))
+
+-- one number more
+pub all_bytes_more : (w : ℕ) (ns : List ℕ) (i : ℕ) → i < length ns → all_bytes_of w (take (i + 1) ns) ≡ all_bytes_of w (take i ns) ++ bytes_of w (get_or ns i 0)
+unfolding all_bytes_of
+all_bytes_more w ns i h =
+    rw (take_more ns i 0 h, flat_map-append (bytes_of w) (take i ns) (get_or ns i 0 ∷ [])) (ap (λ (l : List ℕ). flat_map (bytes_of w) (take i ns) ++ l) (append-nil (bytes_of w (get_or ns i 0))))
+
+-- a number written behind the others
+pub next_written : (out : List ℕ) (w : ℕ) (ns : List ℕ) (i : ℕ) → i < length ns → w * length ns ≤ length out → written (written out 0 (all_bytes_of w (take i ns))) (w * i) (bytes_of w (get_or ns i 0)) ≡ written out 0 (all_bytes_of w (take (i + 1) ns))
+next_written out w ns i h room =
+    let front = all_bytes_of w (take i ns) in
+    let next = bytes_of w (get_or ns i 0) in
+    let n : 0 + length front ≡ w * i = zero-add (length front) ∙ length-all_bytes_of w (take i ns) ∙ ap (λ m. w * m) (length-take-le i ns (omega arith)) in
+    let p = mul-le-mul_left {m = suc i} {n = length ns} w h in
+    ap (λ k. written (written out 0 front) k next) (sym n)
+    ∙ sym (written-append out 0 front next (omega (arith, n, p, mul-suc w i, length-bytes_of w (get_or ns i 0))))
+    ∙ ap (λ (l : List ℕ). written out 0 l) (sym (all_bytes_more w ns i h))
+
+pub all_bytes_none : (w : ℕ) → all_bytes_of w [] ≡ []
+unfolding all_bytes_of
+all_bytes_none w = refl

@@ -10,10 +10,8 @@ pub fn number_at(s: &[u8], at: usize, width: usize) -> u64
     ensures { result ≡ number_at width s.now at }
 {
     let mut x: u64 = 0;
-    let mut i = width;
-    while 0 < i {
-        i -= 1;
-        x = x * 256 + s[at + i] as u64;
+    for byte in s[at..at + width].iter().rev() {
+        x = x * 256 + *byte as u64;
     }
     x
 }
@@ -24,11 +22,9 @@ pub fn put_number(out: &mut [u8], at: usize, width: usize, x: u64)
     ensures { out.new ≡ written out.old at (bytes_of width x) }
 {
     let mut y = x;
-    let mut i = 0;
-    while i < width {
-        out[at + i] = (y % 256) as u8;
+    for byte in &mut out[at..at + width] {
+        *byte = (y % 256) as u8;
         y /= 256;
-        i += 1;
     }
 }
 
@@ -37,11 +33,7 @@ pub fn put_numbers(out: &mut [u8], width: usize, numbers: &[u64])
     requires { width * length numbers.now ≤ length out.old }
     ensures { out.new ≡ written out.old 0 (all_bytes_of width numbers.now) }
 {
-    let mut at = 0;
-    let mut i = 0;
-    while i < numbers.len() {
-        put_number(out, at, width, numbers[i]);
-        at += width;
-        i += 1;
+    for (i, number) in numbers.iter().enumerate() {
+        put_number(out, width * i, width, *number);
     }
 }

@@ -1,47 +1,31 @@
-use mathlib.Core.Path.{◌≡◌, refl, ◌∙◌}
-use Prim.Native.Nat.{suc, ◌+◌, ◌-◌}
-use native.Mathlib.Nat.{pow-le-pow_right, sub_self, sub-zero, add-zero}
-use native.Mathlib.Omega.{arith}
-use lib.ListN.{get_or}
-use Rattle.basis.specs.Numbers.{number}
-use Rattle.basis.proofs.Numbers.{digit_more, read_more}
+use Rattle.std.proofs.Common.{◌∙◌, ap, length, arith, ◌∷◌, [], add-one}
+use native.Mathlib.Nat.{pow-le-pow_right}
+use Rattle.std.proofs.Math.ListN.{length-append}
+use Rattle.basis.proofs.Numbers.{digit_more, read_more, all_read}
 use Rattle.basis.proofs.number_at.Goals as goal
-
-pub loop-i-init : goal.loop-i-init
-unfolding number
-loop-i-init c =
-    rw (sub_self) (omega arith, omega arith, refl)
 
 pub overflow_mul-x : goal.overflow_mul-x
 overflow_mul-x c =
-    let a = c.args in
-    let i = c.loop-i.i in
-    omega (arith, pow-le-pow_right {n = 256} (omega arith) {i = a.width - i} {j = 7} (omega arith))
+    let l = c.loop-byte in
+    let n = ap length c.in-Some.ensures.steps ∙ length-append c.next.new.self.iter.rest.now (c.in-Some.byte.now ∷ []) in
+    omega (arith, l.invariant.small, n, pow-le-pow_right {n = 256} (omega arith) {i = length l.yielded} {j = 7} (omega (arith, n)))
 
-pub overflow_cast-x : goal.overflow_cast-x
-overflow_cast-x c = omega (arith, c.type_inv.s (c.args.at + (c.loop-i.i - 1)))
+pub overflow_add-x : goal.overflow_add-x
+overflow_add-x c =
+    let l = c.loop-byte in
+    let n = ap length c.in-Some.ensures.steps ∙ length-append c.next.new.self.iter.rest.now (c.in-Some.byte.now ∷ []) in
+    omega (arith, l.invariant.small, n, pow-le-pow_right {n = 256} (omega arith) {i = length l.yielded} {j = 7} (omega (arith, n)))
 
-pub overflow_add-x-in-loop-i : goal.overflow_add-x-in-loop-i
-overflow_add-x-in-loop-i c =
-    let a = c.args in
-    let l = c.loop-i in
-    let b = c.type_inv.s (a.at + (l.i - 1)) in
-    omega (arith, digit_more (a.width - l.i) l.x (get_or a.s.now (a.at + (l.i - 1)) 0) l.invariant.1 (omega (arith, b)), pow-le-pow_right {n = 256} (omega arith) {i = suc (a.width - l.i)} {j = 8} (omega arith))
-
-pub loop-i-preserved : goal.loop-i-preserved
-loop-i-preserved c =
-    let a = c.args in
-    let l = c.loop-i in
-    let b = c.type_inv.s (a.at + (l.i - 1)) in
-    let n : a.width - (l.i - 1) ≡ suc (a.width - l.i) = omega arith in (
-      omega arith,
-      rw n (digit_more (a.width - l.i) l.x (get_or a.s.now (a.at + (l.i - 1)) 0) l.invariant.1 (omega (arith, b))),
-      read_more a.s.now a.at a.width l.i l.x (omega arith) (omega arith) (omega arith) l.invariant.2,
-    )
+pub loop-byte-preserved : goal.loop-byte-preserved
+loop-byte-preserved c =
+    let l = c.loop-byte in
+    let n = ap length c.in-Some.ensures.steps ∙ length-append c.next.new.self.iter.rest.now (c.in-Some.byte.now ∷ []) in
+    let y = length-append l.yielded (c.in-Some.byte ∷ []) in
+    record {
+      places = omega (arith, n, y);
+      small = rw (y, add-one) (digit_more (length l.yielded) l.x c.in-Some.byte.now l.invariant.small (omega arith));
+      value = read_more c.next.new.self.iter.rest.now l.byte-iterator.iter.rest.now c.in-Some.byte.now l.x c.in-Some.ensures.steps ∙ l.invariant.value;
+    }
 
 pub returns : goal.returns
-returns c =
-    let a = c.args in
-    let l = c.loop-i in
-    let z : l.i ≡ 0 = omega arith in
-    l.invariant.2 ∙ rw (z, sub-zero, add-zero)
+returns c = all_read c.loop-byte.byte-iterator.iter.rest.now c.loop-byte.x c.in-None.ensures.steps.0 ∙ c.loop-byte.invariant.value

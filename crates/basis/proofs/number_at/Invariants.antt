@@ -1,12 +1,14 @@
--- `basis::number_at` meets its contract. The invariant: x is the number of the bytes from i on, which are width - i.
+-- `basis::number_at` meets its contract. The invariant: the bytes that are left, with x behind them, make the number.
 -- Assumes nothing.
-use mathlib.Core.Path.{◌≡◌}
-use Prim.Native.Nat.{◌+◌, ◌-◌, ◌^◌, ◌≤◌, ◌<◌}
-use Rattle.basis.specs.Numbers.{number_at}
+use Rattle.std.proofs.Common.{◌≡◌, ◌+◌, ◌*◌, ◌<◌, ◌^◌, length}
+use Rattle.basis.specs.Numbers.{number, number_at}
 use Rattle.basis.proofs.number_at.Given as goal
 
-abbrev pub invariant-loop-i : goal.invariant-loop-i
-invariant-loop-i l = (l.i ≤ l.width) × (l.x < 256 ^ (l.width - l.i)) × (l.x ≡ number_at (l.width - l.i) l.s (l.at + l.i))
-
-abbrev pub decreases-loop-i : goal.decreases-loop-i
-decreases-loop-i l = l.i
+abbrev pub invariant-loop-byte : goal.invariant-loop-byte
+invariant-loop-byte l =
+    let left = l.byte-iterator.iter.rest.now in
+    record {
+      places : length left + length l.yielded ≡ l.width;
+      small : l.x < 256 ^ length l.yielded;
+      value : number left + 256 ^ length left * l.x ≡ number_at l.width l.s l.at;
+    }
