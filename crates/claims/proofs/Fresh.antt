@@ -2,7 +2,7 @@
 use mathlib.Core.Path.{◌≡◌, refl, ap}
 use mathlib.Core.Bool.{false≢true}
 use mathlib.Core.List.{List, [], ◌∷◌}
-use Prim.Native.Nat.{ℕ, zero, suc, zero-le}
+use Prim.Native.Nat.{ℕ, zero, suc, ◌+◌, zero-le}
 use native.Mathlib.Nat.{le_refl}
 use lib.ListN.{get_or, replicate, length-replicate}
 use Rattle.basis.specs.Tables.{tab_from}
@@ -16,7 +16,7 @@ module _ {A : Type 0} where
   replicate-tab : (x : A) (i n : ℕ) → replicate n x ≡ tab_from (λ k. x) i n
   unfolding tab_from
   replicate-tab x i zero = refl
-  replicate-tab x i (suc n) = ap (λ (l : List A). x ∷ l) (replicate-tab x (suc i) n)
+  replicate-tab x i (suc n) = ap (λ (l : List A). x ∷ l) (replicate-tab x (i + 1) n)
 
 zero_everywhere : (n i : ℕ) → ◌≡◌ {A = ℕ} (get_or (replicate n 0) i 0) 0
 zero_everywhere zero i = refl

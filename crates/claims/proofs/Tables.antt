@@ -2,7 +2,7 @@
 use mathlib.Core.Path.{◌≡◌, refl, sym, ap, ◌∙◌}
 use mathlib.Core.Bool.{Bool, true, false}
 use mathlib.Core.List.{List, ◌∷◌, map}
-use Prim.Native.Nat.{ℕ, zero, suc, ◌<◌}
+use Prim.Native.Nat.{ℕ, zero, suc, ◌+◌, ◌<◌}
 use borrow.Author.Tests.{eqb-true, eqb-false}
 use lib.Dec.{eqb}
 use lib.ListN.{get_or, set, length-set}
@@ -30,7 +30,7 @@ module _ {A B : Type 0} where
   map-tab_from : (g : A → B) (f : ℕ → A) (i n : ℕ) → map g (tab_from f i n) ≡ tab_from (λ k. g (f k)) i n
   unfolding tab_from
   map-tab_from g f i zero = refl
-  map-tab_from g f i (suc n) = ap (λ (l : List B). g (f i) ∷ l) (map-tab_from g f (suc i) n)
+  map-tab_from g f i (suc n) = ap (λ (l : List B). g (f i) ∷ l) (map-tab_from g f (i + 1) n)
 
   -- a table mapped
   pub map-tab : (g : A → B) (f : ℕ → A) (n : ℕ) → map g (tab f n) ≡ tab (λ k. g (f k)) n
