@@ -2,8 +2,8 @@
 """sweep.py FOLDER: writes a test of every TC from 0 to 255, ending from 0 to 3 and count from 0 to 97, as lines for the program plant_cases,
 into FOLDER/000.txt and on.
 
-Each test stands behind a fresh unit; one that is accepted stands there twice, so that a second trip is met. A file has at most the bytes that
-the program reads, and begins with a fresh unit."""
+Each test stands behind a fresh unit; one that is accepted stands there twice, so that a second trip is met. A file has at most 65,536 bytes, and
+begins with a fresh unit."""
 import pathlib
 import sys
 
@@ -35,7 +35,7 @@ def cases():
 
 
 def files():
-    """The cases one behind the other, as many at a time as the program reads."""
+    """The cases one behind the other, as many at a time as a file has room for."""
     text = ""
     for case in cases():
         if len(text) + len(case) > MOST_BYTES:
