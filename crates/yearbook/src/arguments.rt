@@ -1,8 +1,17 @@
-// What the program is asked for by its arguments.
-use crate::output::{Console, print, say};
+// What the program's arguments ask for. An argument is a path or a word, and need be no text.
+use crate::failure::Failure;
+use std::env::FillError;
+use std::io;
+use std::rt::Env;
+
+// The most bytes of an argument: those of the longest path.
+pub const MOST_ARGUMENT: usize = 4096;
+
+// The system's number of the error of a name that is too long.
+const NAME_TOO_LONG: i32 = 36;
 
 // What is printed of a journal.
-#[derive(Clone, Copy)]
+#[derive(Clone, Copy, Debug, PartialEq, Eq)]
 pub enum Asked {
     Listing,
     Replies,
@@ -11,105 +20,86 @@ pub enum Asked {
 }
 
 // What the first argument asks for, or that it is a file; what begins with a minus sign and is no word is unknown.
-#[derive(Clone, Copy)]
-pub enum Word {
+#[derive(Clone, Copy, Debug, PartialEq, Eq)]
+enum Word {
     Print(Asked),
     Help,
     Unknown,
     File,
 }
 
-// Whether the argument is the word.
-fn is_same(argument: &[u8], word: &[u8]) -> bool {
-    if argument.len() != word.len() {
-        return false;
-    }
-    let mut i = 0;
-    while i < argument.len() {
-        if argument[i] != word[i] {
-            return false;
+impl From<&[u8]> for Word {
+    fn from(argument: &[u8]) -> Word {
+        match argument {
+            b"replies" => Word::Print(Asked::Replies),
+            b"run" => Word::Print(Asked::Run),
+            b"page" => Word::Print(Asked::Page),
+            b"help" | b"--help" | b"-h" => Word::Help,
+            [b'-', ..] => Word::Unknown,
+            _ => Word::File,
         }
-        i += 1;
     }
-    true
 }
 
-// Whether the argument begins with a minus sign.
-fn is_option(argument: &[u8]) -> bool {
-    if argument.len() == 0 {
-        return false;
-    }
-    argument[0] == b'-'
+// What the arguments ask for: the words, or what is printed of a journal, of standard input where no file is named.
+#[derive(Clone, Copy)]
+pub enum Request<'a> {
+    Help,
+    Print {
+        asked: Asked,
+        path: Option<&'a [u8]>,
+    },
 }
 
-pub fn word_of(argument: &[u8]) -> Word {
-    if is_same(argument, b"replies") {
-        return Word::Print(Asked::Replies);
+// The argument at a place, in the space that is lent for it; none where the program was given none there.
+fn argument<'a>(
+    rt: &HostRuntime,
+    place: usize,
+    name: &'a [u8],
+    space: &'a mut [u8],
+) -> Result<Option<&'a [u8]>, Failure<'a>> {
+    match rt.arg(place, space) {
+        Ok(size) => Ok(Some(&space[..size])),
+        Err(FillError::NotPresent) => Ok(None),
+        Err(FillError::TooLong) => Err(Failure::System {
+            name,
+            error: io::Error::from_raw_os_error(NAME_TOO_LONG),
+        }),
     }
-    if is_same(argument, b"run") {
-        return Word::Print(Asked::Run);
-    }
-    if is_same(argument, b"page") {
-        return Word::Print(Asked::Page);
-    }
-    if is_same(argument, b"help") || is_same(argument, b"--help") || is_same(argument, b"-h") {
-        return Word::Help;
-    }
-    if is_option(argument) {
-        return Word::Unknown;
-    }
-    Word::File
 }
 
-// How the program is called, on standard error.
-pub fn usage(console: &mut Console) {
-    say(
-        console,
-        b"usage: yearbook [replies | run | page] [FILE] | yearbook help\n",
-    );
+// Whether the program was given an argument at this place.
+fn is_given(rt: &HostRuntime, place: usize) -> bool {
+    !matches!(rt.arg(place, &mut []), Err(FillError::NotPresent))
 }
 
-// An argument in a word's place that is none.
-pub fn unknown(console: &mut Console, argument: &[u8]) {
-    say(console, b"yearbook: ");
-    say(console, argument);
-    say(console, b": unknown word\n");
-    usage(console);
-}
-
-// More arguments than a word and a file, or some behind `help`.
-pub fn too_many(console: &mut Console) {
-    say(console, b"yearbook: too many arguments\n");
-    usage(console);
-}
-
-// The words, on standard output.
-pub fn help(console: &mut Console) {
-    let _ = print(
-        console,
-        b"usage: yearbook [replies | run | page] [FILE] | yearbook help\n",
-    ) && print(
-        console,
-        b"Reads a journal of the firm capacity book, FILE or standard input, of at most 65536 bytes.\n",
-    ) && print(
-        console,
-        b"  without a word  the listing: U units, P producers, D demands, S settlements, T totals, R records\n",
-    ) && print(
-        console,
-        b"  replies         each record's place, call, number and meaning, and where the reading stopped\n",
-    ) && print(
-        console,
-        b"  run             the counts, where and why the reading stopped, and the first refused record with its number\n",
-    ) && print(
-        console,
-        b"  page            the printed close: a line of 36 columns for each declared consumer, 50 to a page\n",
-    ) && print(console, b"  help            these words\n")
-        && print(
-            console,
-            b"A journal holds binary records; scripts/journal of the sources makes them from lines of text.\n",
-        )
-        && print(
-            console,
-            b"Where the program ends by itself, standard error is empty exactly when all was read and accepted, and all that was asked for was written.\n",
-        );
+impl<'a> Request<'a> {
+    // What the arguments ask for, of which the first two stand in the spaces that are lent for them.
+    pub fn of(
+        rt: &HostRuntime,
+        first: &'a mut [u8],
+        second: &'a mut [u8],
+    ) -> Result<Request<'a>, Failure<'a>> {
+        let Some(first) = argument(rt, 1, b"first argument", first)? else {
+            return Ok(Request::Print {
+                asked: Asked::Listing,
+                path: None,
+            });
+        };
+        match Word::from(first) {
+            Word::Unknown => Err(Failure::UnknownWord(first)),
+            Word::Help if is_given(rt, 2) => Err(Failure::TooManyArguments),
+            Word::Help => Ok(Request::Help),
+            Word::Print(_) if is_given(rt, 3) => Err(Failure::TooManyArguments),
+            Word::Print(asked) => Ok(Request::Print {
+                asked,
+                path: argument(rt, 2, b"second argument", second)?,
+            }),
+            Word::File if is_given(rt, 2) => Err(Failure::UnknownWord(first)),
+            Word::File => Ok(Request::Print {
+                asked: Asked::Listing,
+                path: Some(first),
+            }),
+        }
+    }
 }
