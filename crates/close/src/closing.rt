@@ -22,7 +22,7 @@ fn figures(p: u32, dmp: u32, consumers: [Consumer; CONSUMERS]) -> CloseFigures
     let surpluses = surpluses(adjusted, consumers);
     let charged = total_of(charges);
     let mut credits = [0u64; CONSUMERS];
-    share::divide(charged, &surpluses, &mut credits);
+    let _ = share::divide(charged, &surpluses, &mut credits);
     let credited = total_of(credits);
     let undistributed = charged - credited;
     CloseFigures {

@@ -5,7 +5,7 @@ ghost use Rattle.fix.specs.Fix.{weights_of, fix_rest, fix_number_by, fixed, fix_
 
 use crate::demands::{narrow, weights, with_demands};
 use crate::offers::{efficient, limits, offers};
-use quantities::CONSUMERS;
+use quantities::{CONSUMERS, number_met};
 use ranges::call_number;
 use state::{Book, Consumer, GATHERING, Reply, Stage, stage_number};
 use table::Call;
@@ -45,7 +45,7 @@ fn divided(dmp: u32, consumers: [Consumer; CONSUMERS]) -> [u32; CONSUMERS]
 {
     let weights = weights(consumers);
     let mut amounts = [0u64; CONSUMERS];
-    share::divide(dmp as u64, &weights, &mut amounts);
+    let _ = share::divide(dmp as u64, &weights, &mut amounts);
     narrow(amounts)
 }
 
@@ -62,7 +62,7 @@ pub fn fix_number(stage: Stage, consumers: [Consumer; CONSUMERS], dmp: u32) -> u
         return 4;
     }
     let weights = weights(consumers);
-    share::division_number(dmp as u64, &weights, CONSUMERS)
+    number_met(share::check_division(dmp as u64, &weights, CONSUMERS))
 }
 
 // The fix at a projected maximum demand DMP, kW.

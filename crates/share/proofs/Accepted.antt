@@ -1,15 +1,21 @@
 -- What an accepted division shows.
-use mathlib.Core.Path.{◌≡◌, ap, ◌∙◌}
-use mathlib.Core.Bool.{true}
+use mathlib.Core.Path.{◌≡◌, refl, ap, ◌∙◌}
+use mathlib.Core.Bool.{true, false, false≢true}
 use mathlib.Core.List.{List}
-use Prim.Native.Nat.{ℕ, ◌+◌, ◌-◌, ◌≤◌, ◌<◌}
-use native.Mathlib.Nat.{pos_of_ne-zero}
+use Prim.Native.Nat.{ℕ, ◌+◌, ◌-◌, ◌*◌, ◌^◌, ◌≤◌, ◌<◌}
+use native.Mathlib.Nat.{pos_of_ne-zero, mul-le-mul, mul-le-mul_right, lt_of_le_of_lt}
 use native.Mathlib.Omega.{arith}
 use borrow.Author.Tests.{ltb-false, eqb-false, le-ltb, ne_eqb}
-use lib.ListN.{length}
+use lib.Dec.{lit<, eqb}
+use lib.ListN.{length, get_or}
+use Rattle.std.specs.Prelude.{Result, Ok, Err, IsErr}
 use Rattle.basis.specs.Sums.{sum, all_at_most}
+use Rattle.basis.proofs.Sums.{sum_at_most, all_at_most_lem}
 use Rattle.basis.proofs.Choice.{peel, peel_not}
 use Rattle.quantities.specs.Limits.{greatest_total, greatest_weight, most_weights}
+use Rattle.quantities.specs.Refusals.{met}
+use Rattle.quantities.specs.declared.refusals.Refusal.{Refusal}
+use Rattle.quantities.specs.declared.refusals.Refusal.TheVariants.{OutOfRange, WrongStage, AlreadyEnrolled, NotEnrolled, ForeignComponent, CountAgainstTime, ImpossibleMinutes, NotDeclared, AboveOffers, AboveBalance, NoWeight, AboveGreatestPower, ShortBuffer}
 use Rattle.share.specs.Division.{whole_parts, remainders, give, shares, division_number}
 use Rattle.share.proofs.Quotients.{length-parts, length-remainders, parts_at_most}
 
@@ -41,6 +47,15 @@ accepted T ws room e =
       fits = ltb-false room (length ws) g.0;
     }
 
+-- weights in range sum to a number of 64 bits
+pub sum_fits : (ws : List ℕ) → all_at_most greatest_weight ws ≡ true → length ws ≤ most_weights → sum ws < 2 ^ 64
+sum_fits ws e h =
+    omega (arith, sum_at_most greatest_weight ws (all_at_most_lem greatest_weight ws e), mul-le-mul_right greatest_weight h)
+
+-- .. and so does a total in range times a weight
+pub product_fits : (T : ℕ) (ws : List ℕ) (i : ℕ) → T ≤ greatest_total → all_at_most greatest_weight ws ≡ true → T * get_or ws i 0 < 2 ^ 64
+product_fits T ws i h e = lt_of_le_of_lt (mul-le-mul h (all_at_most_lem greatest_weight ws e i)) (lit< tt)
+
 -- the whole parts and what they leave are ready for the units left over, and these make the shares
 module _ (T : ℕ) (ws : List ℕ) (room : ℕ) (h : Accepted T ws room) (W : ℕ) (w : W ≡ sum ws) (a r : List ℕ) (ea : a ≡ whole_parts T W ws) (er : r ≡ remainders T W ws) (left : ℕ) (el : left ≡ T - sum (whole_parts T W ws)) where
   pub ready : ((length a ≡ length r) × (0 < length r)) × (sum a + left ≤ greatest_total)
@@ -67,3 +82,23 @@ enough T ws room other h k =
       ne_eqb (sum ws) 0 (λ e. absurd (omega (arith, h.positive))),
       le-ltb other (length ws) k,
     )
+
+-- a refusal has a number, and the lists are kept
+refusing : (refusal : Refusal) → eqb (met {A = Unit {0}} (Err refusal)) 0 ≡ false
+refusing OutOfRange = refl
+refusing WrongStage = refl
+refusing AlreadyEnrolled = refl
+refusing NotEnrolled = refl
+refusing ForeignComponent = refl
+refusing CountAgainstTime = refl
+refusing ImpossibleMinutes = refl
+refusing NotDeclared = refl
+refusing AboveOffers = refl
+refusing AboveBalance = refl
+refusing NoWeight = refl
+refusing AboveGreatestPower = refl
+refusing ShortBuffer = refl
+
+pub refused : (answer : Result (Unit {0}) Refusal) → IsErr answer → eqb (met answer) 0 ≡ false
+refused (Ok x) h = absurd (false≢true h)
+refused (Err refusal) h = refusing refusal

@@ -1,5 +1,6 @@
 -- A division over buffers is the division of the numbers that they hold.
 use mathlib.Core.Path.{◌≡◌, sym, ap, ◌∙◌}
+use mathlib.Core.Bool.{true≢false}
 use mathlib.Core.List.{List, append-nil}
 use Prim.Native.Nat.{ℕ, ◌*◌, ◌/◌, ◌%◌, ◌≤◌, ◌<◌}
 use native.Mathlib.Nat.{zero-add}
@@ -7,13 +8,16 @@ use native.Mathlib.Omega.{arith}
 use borrow.Author.Tests.{eq-eqb, ne_eqb, lt-ltb}
 use lib.Dec.{ltb}
 use lib.ListN.{length, drop_of_length-le}
+use Rattle.std.specs.Prelude.{Result, IsErr}
 use Rattle.basis.specs.Numbers.{numbers_of, all_bytes_of, written}
 use Rattle.basis.proofs.Choice.{pick_same}
 use Rattle.basis.proofs.Tables.{length-tab}
+use Rattle.quantities.specs.Refusals.{met}
+use Rattle.quantities.specs.declared.refusals.Refusal.{Refusal}
 use Rattle.quantities.specs.Limits.{greatest_total, most_weights}
 use Rattle.share.specs.Division.{shares, division_number, divided}
 use Rattle.share.specs.Buffers.{buffer_weights, share_number, shared_bytes, Shares}
-use Rattle.share.proofs.Accepted.{Accepted, accepted, enough}
+use Rattle.share.proofs.Accepted.{Accepted, accepted, enough, refused}
 use Rattle.share.proofs.Laws.{length-shares}
 
 -- a list written over one of its own length
@@ -49,10 +53,10 @@ module _ (T : ℕ) (buffer old : List ℕ) (n : ℕ) (h : length buffer ≡ 4 * 
   unfolding share_number
   the_number = let m : length buffer % 4 ≡ 0 = omega arith in rw (m, same)
 
-  pub refused : (number : ℕ) → number ≡ division_number T numbers (length old / 8) → (number ≡ 0 → ⊥) → Shares T buffer old number old
+  pub refused_bytes : (answer : Result (Unit {0}) Refusal) → IsErr answer → met answer ≡ division_number T numbers (length old / 8) → Shares T buffer old (met answer) old
   unfolding shared_bytes
-  refused number q o =
-      let s = q ∙ sym the_number in record { answer = s; amounts = rw (← s, ne_eqb number 0 o) }
+  refused_bytes answer o q =
+      let s = q ∙ sym the_number in record { answer = s; amounts = rw (← s, refused answer o) }
 
   module _ (z : division_number T numbers (length old / 8) ≡ 0) (parts new : List ℕ) (k : length parts ≡ n) where
     length-numbers : length numbers ≡ n
@@ -66,6 +70,11 @@ module _ (T : ℕ) (buffer old : List ℕ) (n : ℕ) (h : length buffer ≡ 4 * 
     divided-whole =
         rw (enough T numbers (length old / 8) (length parts) shown (omega (arith, length-numbers)))
         (written-whole parts (shares T numbers) (omega (arith, length-shares T numbers, length-numbers)))
+
+    -- the room of the parts is enough
+    pub never_refused : (answer : Result (Unit {0}) Refusal) → IsErr answer → met answer ≡ division_number T numbers (length parts) → ⊥
+    never_refused answer o q =
+        true≢false (sym (eq-eqb (met answer) 0 (q ∙ enough T numbers (length old / 8) (length parts) shown (omega (arith, length-numbers)))) ∙ refused answer o)
 
     pub room_for_all : 8 * length (divided T numbers parts) ≤ length old
     room_for_all = rw (divided-whole, length-shares T numbers) (omega (arith, shown.fits))

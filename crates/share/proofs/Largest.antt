@@ -1,14 +1,17 @@
 -- The first place of the greatest element, told apart by what it is.
-use mathlib.Core.Path.{◌≡◌, refl}
-use mathlib.Core.Bool.{Bool, true, false}
+use mathlib.Core.Path.{◌≡◌}
+use mathlib.Core.Bool.{Bool}
 use mathlib.Core.List.{List, [], ◌∷◌}
-use Prim.Native.Nat.{ℕ, zero, suc, max, ◌≤◌, ◌<◌, zero-le}
-use native.Mathlib.Nat.{le_of_suc-le-suc, not-suc-le-zero}
+use Prim.Native.Nat.{ℕ, zero, suc, ◌≤◌, ◌<◌, zero-le}
+use native.Mathlib.Nat.{not-suc-le-zero}
 use native.Mathlib.Omega.{arith}
-use borrow.Author.Tests.{eqb-true, eqb-false, leb-true, leb-false}
-use lib.Dec.{eqb, leb}
-use lib.ListN.{length, get_or, get_or-eq_default}
-use Rattle.basis.specs.Choice.{pick}
+use borrow.Author.Tests.{eqb-true, eqb-false}
+use lib.Dec.{eqb}
+use lib.ListN.{length, get_or}
+use mathlib.Core.Logic.{⊎_elim}
+use Rattle.std.specs.List.{IsFirstMaxByKey}
+use Rattle.std.proofs.lemmas.Bool.{cases_lt}
+use Rattle.std.proofs.lemmas.List.Sums.{fails_before_first, passes_at_first}
 use Rattle.basis.specs.Sums.{greatest}
 use Rattle.share.specs.Division.{first_place_of, largest}
 
@@ -30,58 +33,38 @@ unfolding greatest
 greatest-stands [] h = absurd (not-suc-le-zero h)
 greatest-stands (x ∷ []) h = (0, omega arith, omega arith)
 greatest-stands (x ∷ y ∷ r) h =
-    let rest = greatest-stands (y ∷ r) (omega arith) in go (leb (greatest (y ∷ r)) x) refl rest
-  where
-    go : (t : Bool) → leb (greatest (y ∷ r)) x ≡ t → ((j : ℕ) × (j < length (y ∷ r)) × (get_or (y ∷ r) j 0 ≡ greatest (y ∷ r))) → (j : ℕ) × (j < length (x ∷ y ∷ r)) × (get_or (x ∷ y ∷ r) j 0 ≡ max x (greatest (y ∷ r)))
-    go true e rest = (0, omega arith, omega (arith, leb-true (greatest (y ∷ r)) x e))
-    go false e rest = (suc rest.0, omega (arith, rest.1), omega (arith, rest.2, leb-false (greatest (y ∷ r)) x e))
+    let rest = greatest-stands (y ∷ r) (omega arith) in
+    ⊎_elim (λ p. (suc rest.0, omega (arith, rest.1), omega (arith, rest.2))) (λ p. (0, omega arith, omega arith)) (cases_lt x (greatest (y ∷ r)))
 
--- where x stands at j, its first place is at most j, and x stands there
-first_place_of_lem : (x : ℕ) (r : List ℕ) (j : ℕ) → j < length r → get_or r j 0 ≡ x → (first_place_of x r ≤ j) × (get_or r (first_place_of x r) 0 ≡ x)
-unfolding first_place_of
-first_place_of_lem x [] j h e = absurd (not-suc-le-zero h)
-first_place_of_lem x (y ∷ r) zero h e = go (eqb y x) refl
-  where
-    go : (t : Bool) → eqb y x ≡ t → (pick t 0 (suc (first_place_of x r)) ≤ 0) × (get_or (y ∷ r) (pick t 0 (suc (first_place_of x r))) 0 ≡ x)
-    go true q = (zero-le, e)
-    go false q = absurd (eqb-false y x q e)
-first_place_of_lem x (y ∷ r) (suc j) h e = go (eqb y x) refl (first_place_of_lem x r j (le_of_suc-le-suc h) e)
-  where
-    go : (t : Bool) → eqb y x ≡ t → (first_place_of x r ≤ j) × (get_or r (first_place_of x r) 0 ≡ x) → (pick t 0 (suc (first_place_of x r)) ≤ suc j) × (get_or (y ∷ r) (pick t 0 (suc (first_place_of x r))) 0 ≡ x)
-    go true q rest = (zero-le, eqb-true y x q)
-    go false q rest = (omega (arith, rest.0), rest.1)
+-- the first place of the greatest is at most that of any, and it stands there
+largest-stands : (r : List ℕ) (j : ℕ) → j < length r → get_or r j 0 ≡ greatest r → (largest r ≤ j) × (get_or r (largest r) 0 ≡ greatest r)
+unfolding largest first_place_of
+largest-stands r j h e =
+    let test : ℕ → Bool = λ y. eqb y (greatest r) in
+    let near : largest r ≤ j =
+    ⊎_elim (λ p. absurd (eqb-false (get_or r j 0) (greatest r) (fails_before_first test r j 0 p) e)) (λ p. p) (cases_lt j (largest r)) in
+    (near, eqb-true (get_or r (largest r) 0) (greatest r) (passes_at_first test r 0 (omega arith)))
 
--- an element before the first place of the greatest is smaller
-smaller : (r : List ℕ) (j : ℕ) → j < length r → j < first_place_of (greatest r) r → get_or r j 0 < greatest r
-smaller r j h q = go (leb (greatest r) (get_or r j 0)) refl
-  where
-    go : (t : Bool) → leb (greatest r) (get_or r j 0) ≡ t → get_or r j 0 < greatest r
-    go true e =
-        absurd (omega (arith, (first_place_of_lem (greatest r) r j h (omega (arith, leb-true (greatest r) (get_or r j 0) e, at_most_greatest r j))).0))
-    go false e = leb-false (greatest r) (get_or r j 0) e
+-- an element before that place is smaller
+smaller : (r : List ℕ) (j : ℕ) → j < largest r → get_or r j 0 < greatest r
+unfolding largest first_place_of
+smaller r j h =
+    let other = eqb-false (get_or r j 0) (greatest r) (fails_before_first (λ y. eqb y (greatest r)) r j 0 h) in
+    omega (arith, at_most_greatest r j)
 
 pub largest_is : (r : List ℕ) → 0 < length r → Largest r (largest r)
-unfolding largest
 largest_is r h =
     let g = greatest-stands r h in
-    let p = first_place_of_lem (greatest r) r g.0 g.1 g.2 in
+    let p = largest-stands r g.0 g.1 g.2 in
     record {
       within = omega (arith, p.0, g.1);
       most = λ j. omega (arith, p.1, at_most_greatest r j);
-      first = λ j q. omega (arith, p.1, smaller r j (omega (arith, p.0, g.1)) q);
+      first = λ j q. omega (arith, p.1, smaller r j q);
     }
 
--- there is only one such place
-pub largest_only : (r : List ℕ) (k : ℕ) → Largest r k → k ≡ largest r
-largest_only r k h =
-    let o = largest_is r (omega (arith, h.within)) in
-    let a : ¬ (k < largest r) = λ p. absurd (omega (arith, o.first k p, h.most (largest r))) in
-    let b : ¬ (largest r < k) = λ p. absurd (omega (arith, h.first (largest r) p, o.most k)) in omega arith
-
--- of a list whose elements are all passed
-pub largest_among : (r : List ℕ) (k i : ℕ) → length r ≤ i → k < length r → ((j : ℕ) → j < i → get_or r j 0 ≤ get_or r k 0) → ((j : ℕ) → j < k → get_or r j 0 < get_or r k 0) → Largest r k
-largest_among r k i e h m f = record { within = h; most = λ j. go j (leb (length r) j) refl; first = f }
-  where
-    go : (j : ℕ) (t : Bool) → leb (length r) j ≡ t → get_or r j 0 ≤ get_or r k 0
-    go j true q = rw (get_or-eq_default r 0 (leb-true (length r) j q)) zero-le
-    go j false q = m j (omega (arith, leb-false (length r) j q))
+-- there is only one such place: of a list whose elements are all passed
+pub first_largest : (r : List ℕ) (i k : ℕ) → i ≡ length r → IsFirstMaxByKey (λ x. x) r i k → k ≡ largest r
+first_largest r i k e h =
+    let o = largest_is r (omega (arith, h.0)) in
+    let a : ¬ (k < largest r) = λ p. absurd (omega (arith, o.first k p, h.1 (largest r) 0 (omega (arith, o.within)))) in
+    let b : ¬ (largest r < k) = λ p. absurd (omega (arith, h.2 (largest r) 0 p, o.most k)) in omega arith

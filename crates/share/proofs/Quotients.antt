@@ -1,12 +1,14 @@
 -- The whole parts and what they leave.
 use mathlib.Core.Path.{◌≡◌, refl, sym, ap, ◌∙◌}
-use mathlib.Core.List.{List, [], ◌∷◌, map}
+use mathlib.Core.List.{List, [], ◌∷◌, ◌++◌, map, map-append}
 use Prim.Native.Nat.{ℕ, zero, suc, ◌+◌, ◌-◌, ◌*◌, ◌/◌, ◌%◌, ◌≤◌, ◌<◌}
 use native.Mathlib.Nat.{mul-add, add-mul, mul-zero, zero-mul, div-add-mod', mod-lt, le_of_mul-le-mul_right, zero-mod, zero-div, sub-add_cancel}
 use native.Mathlib.Omega.{arith}
-use lib.ListN.{length, get_or, take, length-map}
+use lib.ListN.{length, get_or, set, take, length-map}
 use Rattle.basis.specs.Sums.{sum}
-use Rattle.basis.proofs.Sums.{sum-cons, sum-parts, sum_passed}
+use Rattle.std.proofs.lemmas.List.{take_more, take_more_set}
+use Rattle.std.proofs.lemmas.List.Sums.{sum_by_push, sum_by_more_le, sum-map}
+use Rattle.basis.proofs.Sums.{sum-cons}
 use Rattle.share.specs.Division.{whole_parts, remainders}
 
 pub length-parts : (T W : ℕ) (ws : List ℕ) → length (whole_parts T W ws) ≡ length ws
@@ -53,7 +55,29 @@ module _ (T : ℕ) (ws : List ℕ) (positive : 0 < sum ws) where
   pub remainder_below : (i : ℕ) → get_or (remainders T (sum ws) ws) i 0 < sum ws
   remainder_below i = rw (remainder_at_lem T (sum ws) ws i) (mod-lt (T * get_or ws i 0) positive)
 
--- the next part is at most what is left, and what is left then still makes the total
-pub left_next : (T : ℕ) (parts : List ℕ) (i left : ℕ) → sum parts ≤ T → i < length parts → left + sum (take i parts) ≡ T → (get_or parts i 0 ≤ left) × (left - get_or parts i 0 + sum (take (i + 1) parts) ≡ T)
-left_next T parts i left h k e =
-    let a = sum_passed parts i k in let b = sum-parts (i + 1) parts in (omega arith, omega arith)
+-- one weight more: its part and its remainder are stored behind the others
+part_more : (T W : ℕ) (ws : List ℕ) (i : ℕ) → i < length ws → whole_parts T W (take (i + 1) ws) ≡ whole_parts T W (take i ws) ++ (T * get_or ws i 0 / W) ∷ []
+unfolding whole_parts
+part_more T W ws i h = rw (take_more ws i 0 h) (map-append (λ w. T * w / W) (take i ws) (get_or ws i 0 ∷ []))
+
+pub part_stored : (T W : ℕ) (ws l : List ℕ) (i : ℕ) → i < length ws → i < length l → take i l ≡ whole_parts T W (take i ws) → take (i + 1) (set l i (T * get_or ws i 0 / W)) ≡ whole_parts T W (take (i + 1) ws)
+part_stored T W ws l i h k e = rw (take_more_set l i (T * get_or ws i 0 / W) k, part_more T W ws i h) (cc e)
+
+pub remainder_stored : (T W : ℕ) (ws l : List ℕ) (i : ℕ) → i < length ws → i < length l → take i l ≡ remainders T W (take i ws) → take (i + 1) (set l i (T * get_or ws i 0 % W)) ≡ remainders T W (take (i + 1) ws)
+unfolding remainders
+remainder_stored T W ws l i h k e =
+    rw (take_more_set l i (T * get_or ws i 0 % W) k, take_more ws i 0 h, map-append (λ w. T * w % W) (take i ws) (get_or ws i 0 ∷ [])) (cc e)
+
+-- the next part joins those that are passed, and is at most what they leave
+pub sum_part_more : (T W : ℕ) (ws : List ℕ) (i : ℕ) → i < length ws → sum (whole_parts T W (take (i + 1) ws)) ≡ sum (whole_parts T W (take i ws)) + T * get_or ws i 0 / W
+sum_part_more T W ws i h = rw (part_more T W ws i h) (sum_by_push (λ (n : ℕ). n) (whole_parts T W (take i ws)) (T * get_or ws i 0 / W))
+
+pub next_part : (T W : ℕ) (ws : List ℕ) (i : ℕ) → (0 < W) × (W ≡ sum ws) → i < length ws → sum (whole_parts T W (take i ws)) + T * get_or ws i 0 / W ≤ T
+unfolding whole_parts
+next_part T W ws i h k =
+    let f : ℕ → ℕ = λ w. T * w / W in
+    let m : sum (whole_parts T W ws) ≤ T = rw h.1 (parts_at_most T ws (omega arith)) in
+    omega (arith, sum-map f (take i ws), sum-map f ws, sum_by_more_le f ws i 0 k)
+
+-- one turn of the loop over the weights
+pub ruleset turn = (next_part, part_stored, remainder_stored, sum_part_more)

@@ -157,12 +157,14 @@ pub given_before : (W n : ℕ) (a r : List ℕ) (i j : ℕ) → length a ≡ len
 given_before W n a r i j e l h p q =
     gives_before W n r i j h (omega (arith, give_extra n a r i e l)) (omega (arith, give_extra n a r j e l))
 
--- one unit, then the others
-pub give-next : (n : ℕ) (a r : List ℕ) → 0 < n → give n a r ≡ give (n - 1) (set a (largest r) (get_or a (largest r) 0 + 1)) (set r (largest r) 0)
+-- one unit more is given of so many
+pub give_next : (n given k : ℕ) (a r : List ℕ) → given < n → k ≡ largest r → give (n - given) a r ≡ give (n - (given + 1)) (set a k (get_or a k 0 + 1)) (set r k 0)
 unfolding give
-give-next zero a r h = absurd (omega arith)
-give-next (suc n) a r h = let e : suc n - 1 ≡ n = omega arith in rw e
+give_next n given k a r h e = let m : n - given ≡ suc (n - (given + 1)) = omega arith in rw (m, e)
 
 pub give_none : (a r : List ℕ) → give 0 a r ≡ a
 unfolding give
 give_none a r = refl
+
+-- one turn of the loop over the units
+pub ruleset giving = (give_next, sum-set)

@@ -1,5 +1,6 @@
 -- Division by shares (document 01): a total T by weights, W being their sum.
-use Rattle.std.specs.Prelude.{◌≡◌, List, [], ◌∷◌, map, ℕ, zero, suc, ◌+◌, ◌-◌, ◌*◌, ◌/◌, ◌%◌, ltb, eqb, length, get_or, set}
+use Rattle.std.specs.Prelude.{◌≡◌, List, map, ℕ, zero, suc, ◌+◌, ◌-◌, ◌*◌, ◌/◌, ◌%◌, ltb, eqb, length, get_or, set}
+use Rattle.std.specs.List.{position_or_len}
 use Rattle.basis.specs.Choice.{pick}
 use Rattle.basis.specs.Sums.{sum, greatest, all_at_most}
 use Rattle.basis.specs.Numbers.{written}
@@ -15,8 +16,7 @@ remainders T W weights = map (λ w. T * w % W) weights
 
 -- the first place at which x stands
 unfoldable pub first_place_of : ℕ → List ℕ → ℕ
-first_place_of x [] = 0
-first_place_of x (y ∷ l) = pick (eqb y x) 0 (suc (first_place_of x l))
+first_place_of x l = position_or_len (λ y. eqb y x) l
 
 -- the place of the largest remainder, the lowest of several
 unfoldable pub largest : List ℕ → ℕ

@@ -1,20 +1,19 @@
 // The division over buffers of bytes, as the functions for C have it.
 ghost use Rattle.std.specs.Prelude.{◌≡◌, ◌*◌, ◌≤◌, length};
 ghost use Rattle.basis.specs.Numbers.{numbers_of};
+ghost use Rattle.quantities.specs.Refusals.{met};
 ghost use Rattle.share.specs.Buffers.{Shares};
 
 use basis::{number_at, put_numbers};
-use quantities::MOST_WEIGHTS;
+use quantities::{MOST_WEIGHTS, Refusal};
 
 // The numbers of four bytes each that the buffer holds, into the weights.
 pub(crate) fn read_weights(buffer: &[u8], weights: &mut [u64])
     requires { 4 * length weights.old ≤ length buffer.now }
     ensures { weights.new ≡ numbers_of 4 (length weights.old) buffer.now }
 {
-    let mut i = 0;
-    while i < weights.len() {
-        weights[i] = number_at(buffer, 4 * i, 4);
-        i += 1;
+    for (i, weight) in weights.iter_mut().enumerate() {
+        *weight = number_at(buffer, 4 * i, 4);
     }
 }
 
@@ -25,30 +24,24 @@ pub(crate) fn divide_buffer(
     amounts: &mut [u8],
     numbers: &mut [u64],
     parts: &mut [u64],
-) -> u32
+) -> Result<(), Refusal>
     requires { (length buffer.now ≡ 4 * length numbers.old) × (length parts.old ≡ length numbers.old) }
-    ensures { Shares total buffer.now amounts.old result amounts.new }
+    ensures { Shares total buffer.now amounts.old (met result) amounts.new }
 {
     read_weights(buffer, numbers);
-    let number = crate::division_number(total, numbers, amounts.len() / 8);
-    if number != 0 {
-        return number;
-    }
-    crate::divide(total, numbers, parts);
+    crate::check_division(total, numbers, amounts.len() / 8)?;
+    crate::divide(total, numbers, parts)?;
     put_numbers(amounts, 8, parts);
-    0
+    Ok(())
 }
 
-// Divides a total by weights of four bytes each into amounts of eight bytes each, low byte first; answers the number met.
-pub fn share_divide(total: u64, weights: &[u8], amounts: &mut [u8]) -> u32
-    ensures { Shares total weights.now amounts.old result amounts.new }
+// Divides a total by weights of four bytes each into amounts of eight bytes each, low byte first.
+pub fn share_divide(total: u64, weights: &[u8], amounts: &mut [u8]) -> Result<(), Refusal>
+    ensures { Shares total weights.now amounts.old (met result) amounts.new }
 {
-    if weights.len() % 4 != 0 {
-        return 3;
-    }
     let n = weights.len() / 4;
-    if MOST_WEIGHTS < n {
-        return 3;
+    if weights.len() % 4 != 0 || MOST_WEIGHTS < n {
+        return Err(Refusal::OutOfRange);
     }
     let mut numbers = [0u64; MOST_WEIGHTS];
     let mut parts = [0u64; MOST_WEIGHTS];

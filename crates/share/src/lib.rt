@@ -3,50 +3,43 @@
 
 mod buffers;
 mod parts;
+mod promises;
 
 ghost use Rattle.std.specs.Prelude.{◌≡◌, length};
+ghost use Rattle.quantities.specs.Refusals.{met};
 ghost use Rattle.share.specs.Division.{Divides, division_number};
 
 pub use buffers::share_divide;
-use quantities::{GREATEST_TOTAL, MOST_WEIGHTS};
+pub use promises::shares_divide;
+use quantities::{GREATEST_TOTAL, MOST_WEIGHTS, Refusal};
 
-// The number that a division into `room` amounts meets: 3, 13, 15 or 0.
-#[tactic(auto, unfolding(crate::specs::Division::division_number))]
-pub fn division_number(total: u64, weights: &[u64], room: usize) -> u32
-    ensures { result ≡ division_number total weights.now room }
+// What a division into `room` amounts meets: 3, 13, 15 or nothing.
+#[tactic(auto, using(crate::proofs::Accepted::sum_fits), unfolding(crate::specs::Division::division_number))]
+pub fn check_division(total: u64, weights: &[u64], room: usize) -> Result<(), Refusal>
+    ensures { met result ≡ division_number total weights.now room }
 {
-    if GREATEST_TOTAL < total {
-        return 3;
-    }
-    let n = weights.len();
-    if n == 0 {
-        return 3;
-    }
-    if MOST_WEIGHTS < n {
-        return 3;
+    if GREATEST_TOTAL < total || weights.is_empty() || MOST_WEIGHTS < weights.len() {
+        return Err(Refusal::OutOfRange);
     }
     if !parts::in_range(weights) {
-        return 3;
+        return Err(Refusal::OutOfRange);
     }
     if parts::sum_of(weights) == 0 {
-        return 13;
+        return Err(Refusal::NoWeight);
     }
-    if room < n {
-        return 15;
+    if room < weights.len() {
+        return Err(Refusal::ShortBuffer);
     }
-    0
+    Ok(())
 }
 
-// Divides the total by the weights into the front of the amounts, and answers the number met.
-pub fn divide(total: u64, weights: &[u64], amounts: &mut [u64]) -> u32
-    ensures { Divides total weights.now amounts.old result amounts.new }
+// Divides the total by the weights into the front of the amounts.
+pub fn divide(total: u64, weights: &[u64], amounts: &mut [u64]) -> Result<(), Refusal>
+    ensures { Divides total weights.now amounts.old (met result) amounts.new }
 {
-    let number = division_number(total, weights, amounts.len());
-    if number != 0 {
-        return number;
-    }
+    check_division(total, weights, amounts.len())?;
     let n = weights.len();
     let mut rest = [0u64; MOST_WEIGHTS];
     parts::share_out(total, weights, &mut amounts[..n], &mut rest[..n]);
-    0
+    Ok(())
 }

@@ -1,7 +1,7 @@
 // The steps of a division: the weights' range and sum, the whole parts, and the units left over.
-ghost use Rattle.std.specs.Prelude.{◌≡◌, true, ◌+◌, ◌-◌, ◌≤◌, ◌<◌, length};
+ghost use Rattle.std.specs.Prelude.{◌≡◌, true, ◌+◌, ◌-◌, ◌≤◌, ◌<◌, ◌^◌, length};
 ghost use Rattle.basis.specs.Sums.{sum, all_at_most};
-ghost use Rattle.quantities.specs.Limits.{greatest_total, greatest_weight, most_weights};
+ghost use Rattle.quantities.specs.Limits.{greatest_total, greatest_weight};
 ghost use Rattle.share.specs.Division.{whole_parts, remainders, largest, give, shares, division_number};
 
 use quantities::GREATEST_WEIGHT;
@@ -10,32 +10,19 @@ use quantities::GREATEST_WEIGHT;
 pub(crate) fn in_range(weights: &[u64]) -> bool
     ensures { result ≡ all_at_most greatest_weight weights.now }
 {
-    let mut i = 0;
-    while i < weights.len() {
-        if GREATEST_WEIGHT < weights[i] {
-            return false;
-        }
-        i += 1;
-    }
-    true
+    weights.iter().all(|weight| *weight <= GREATEST_WEIGHT)
 }
 
 // The sum of weights that are in range.
 pub(crate) fn sum_of(weights: &[u64]) -> u64
-    requires weights_value { all_at_most greatest_weight weights.now ≡ true }
-    requires weights_len_bound { length weights.now ≤ most_weights }
+    requires { sum weights.now < 2 ^ 64 }
     ensures { result ≡ sum weights.now }
 {
-    let mut s: u64 = 0;
-    let mut i = 0;
-    while i < weights.len() {
-        s += weights[i];
-        i += 1;
-    }
-    s
+    weights.iter().sum()
 }
 
 // The whole parts into the amounts, what they leave of each product into the rest; answers the units left over.
+#[tactic(auto, using(crate::proofs::Accepted::product_fits, crate::proofs::Quotients::turn), unfolding(crate::specs::Division::whole_parts, crate::specs::Division::remainders))]
 pub(crate) fn whole_parts(
     total: u64,
     whole: u64,
@@ -51,14 +38,12 @@ pub(crate) fn whole_parts(
     ensures rest_after { rest.new ≡ remainders total whole weights.now }
 {
     let mut left = total;
-    let mut i = 0;
-    while i < weights.len() {
-        let product = total * weights[i];
+    for (i, weight) in weights.iter().enumerate() {
+        let product = total * *weight;
         let part = product / whole;
         amounts[i] = part;
         rest[i] = product % whole;
         left -= part;
-        i += 1;
     }
     left
 }
@@ -69,31 +54,25 @@ pub(crate) fn largest_of(rest: &[u64]) -> usize
     ensures { (result ≡ largest rest.now) × (result < length rest.now) }
 {
     let mut place = 0;
-    let mut top = rest[0];
-    let mut i = 1;
-    while i < rest.len() {
-        let x = rest[i];
-        if top < x {
+    for i in 1..rest.len() {
+        if rest[place] < rest[i] {
             place = i;
-            top = x;
         }
-        i += 1;
     }
     place
 }
 
 // Gives the units left over singly to the largest of the rest, which is then struck.
+#[tactic(auto, using(crate::proofs::Units::giving), unfolding(crate::specs::Division::give))]
 pub(crate) fn give_left(left: u64, amounts: &mut [u64], rest: &mut [u64])
     requires amounts_len { (length amounts.old ≡ length rest.old) × (0 < length rest.old) }
     requires left_bound { sum amounts.old + left ≤ greatest_total }
     ensures { amounts.new ≡ give left amounts.old rest.old }
 {
-    let mut n = left;
-    while 0 < n {
-        let k = largest_of(rest);
-        amounts[k] += 1;
-        rest[k] = 0;
-        n -= 1;
+    for _unit in 0..left {
+        let place = largest_of(rest);
+        amounts[place] += 1;
+        rest[place] = 0;
     }
 }
 

@@ -9,6 +9,7 @@ use lib.ListN.{length}
 use mathlib.Core.Bool.{true}
 use Rattle.basis.specs.Sums.{all_at_most}
 use Rattle.quantities.specs.Limits.{greatest_power, consumers}
+use Rattle.quantities.specs.Refusals.{met}
 use Rattle.close.specs.Close.{adjusted_in}
 use borrow.Author.Rules.{rules}
 use Rattle.close.proofs.CloseLaws.{charges_fit, charges_by_consumer, surpluses_by_consumer, credits, undistributed, figures_with}
@@ -31,11 +32,11 @@ total_of-charged-requires c =
 
 pub total_of-credited-requires : goal.total_of-credited-requires
 total_of-credited-requires c =
-    omega (arith, (undistributed c.total_of-charged.result c.surpluses-surpluses.result c.divide.new.amounts c.divide.result (search rules) c.divide.ensures).0)
+    omega (arith, (undistributed c.total_of-charged.result c.surpluses-surpluses.result c.divide.new.amounts (met c.divide.result) (search rules) c.divide.ensures).0)
 
 pub overflow_sub-undistributed : goal.overflow_sub-undistributed
 overflow_sub-undistributed c =
-    omega (arith, (undistributed c.total_of-charged.result c.surpluses-surpluses.result c.divide.new.amounts c.divide.result (search rules) c.divide.ensures).0, c.total_of-credited.ensures)
+    omega (arith, (undistributed c.total_of-charged.result c.surpluses-surpluses.result c.divide.new.amounts (met c.divide.result) (search rules) c.divide.ensures).0, c.total_of-credited.ensures)
 
 pub returns : goal.returns
 returns c =
@@ -50,6 +51,6 @@ returns c =
     (c.charges-charges.ensures ∙ charges_by_consumer a.dmp dfa a.consumers c.adjusted-adjusted.ensures all a.p)
     (c.surpluses-surpluses.ensures ∙ surpluses_by_consumer a.dmp dfa a.consumers c.adjusted-adjusted.ensures all)
     c.total_of-charged.ensures
-    (credits charged positive c.divide.new.amounts c.divide.result full c.divide.ensures)
+    (credits charged positive c.divide.new.amounts (met c.divide.result) full c.divide.ensures)
     c.total_of-credited.ensures
-    (ap (λ n. charged - n) c.total_of-credited.ensures ∙ (undistributed charged positive c.divide.new.amounts c.divide.result full c.divide.ensures).1)
+    (ap (λ n. charged - n) c.total_of-credited.ensures ∙ (undistributed charged positive c.divide.new.amounts (met c.divide.result) full c.divide.ensures).1)

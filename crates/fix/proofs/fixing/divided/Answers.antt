@@ -5,6 +5,7 @@ use Prim.Native.Nat.{ℕ}
 use native.Mathlib.Omega.{arith}
 use Rattle.share.specs.Division.{division_number, shares}
 use Rattle.quantities.specs.Limits.{consumers}
+use Rattle.quantities.specs.Refusals.{met}
 use Rattle.state.specs.declared.kept.Consumer.{Consumer}
 use Rattle.fix.specs.Fix.{weights_of, fix_rest}
 use borrow.Author.Rules.{rules}
@@ -17,13 +18,13 @@ none_met dmp number xs ws a e z = a ∙ ap (λ l. division_number dmp l consumer
 
 pub narrow-requires : goal.narrow-requires
 narrow-requires c k =
-    let d = none_met c.args.dmp c.divide.result c.args.consumers c.weights-weights.result c.divide.ensures.answer c.weights-weights.ensures c.requires in
-    let h = each c.args.dmp c.weights-weights.result c.divide.new.amounts c.divide.result (search rules) c.divide.ensures d k in
+    let d = none_met c.args.dmp (met c.divide.result) c.args.consumers c.weights-weights.result c.divide.ensures.answer c.weights-weights.ensures c.requires in
+    let h = each c.args.dmp c.weights-weights.result c.divide.new.amounts (met c.divide.result) (search rules) c.divide.ensures d k in
     omega arith
 
 pub returns : goal.returns
 returns c =
-    let d = none_met c.args.dmp c.divide.result c.args.consumers c.weights-weights.result c.divide.ensures.answer c.weights-weights.ensures c.requires in
+    let d = none_met c.args.dmp (met c.divide.result) c.args.consumers c.weights-weights.result c.divide.ensures.answer c.weights-weights.ensures c.requires in
     c.narrow.ensures
-    ∙ accepted c.args.dmp c.weights-weights.result c.divide.new.amounts c.divide.result (search rules) c.divide.ensures d
+    ∙ accepted c.args.dmp c.weights-weights.result c.divide.new.amounts (met c.divide.result) (search rules) c.divide.ensures d
     ∙ ap (λ ws. shares c.args.dmp ws) c.weights-weights.ensures

@@ -3,14 +3,14 @@
 use mathlib.Core.Path.{◌∙◌}
 use native.Mathlib.Omega.{arith}
 use lib.ListN.{length}
-use Rattle.share.proofs.Accepted.{accepted, ready, made}
+use Rattle.share.proofs.Accepted.{accepted, sum_fits, ready, made}
 use Rattle.share.proofs.parts.share_out.Goals as goal
 use Rattle.share.proofs.parts.share_out.Goals.{Start}
 
 pub sum_of-whole-requires : goal.sum_of-whole-requires
 sum_of-whole-requires c =
     let a = accepted c.args.total c.args.weights.now (length c.args.amounts.now) c.requires.amounts_value in
-    record { weights_value = a.weights; weights_len_bound = a.most }
+    sum_fits c.args.weights.now a.weights a.most
 
 pub whole_parts-left-requires : goal.whole_parts-left-requires
 whole_parts-left-requires c =
