@@ -6,3 +6,4 @@ pub mod Entries
 pub mod Numbers
 pub mod Answers
 pub mod Filling
+pub mod Made

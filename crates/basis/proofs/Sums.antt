@@ -1,24 +1,20 @@
 -- Sums over a list and over a count.
 use mathlib.Core.Path.{◌≡◌, refl, sym, ap, ◌∙◌}
 use mathlib.Core.Bool.{true, false}
-use mathlib.Core.List.{List, [], ◌∷◌, ◌++◌}
-use mathlib.Core.Logic.{⊎_elim}
+use mathlib.Core.List.{List, [], ◌∷◌}
 use Prim.Native.Nat.{ℕ, zero, suc, ◌+◌, ◌*◌, ◌≤◌, ◌<◌, zero-le}
-use native.Mathlib.Nat.{eq-or-lt_of_le, le_of_suc-le-suc, not-suc-le-zero, suc-mul, mul-add, mul-zero, le_refl}
+use native.Mathlib.Nat.{suc-mul, mul-zero, le_refl}
 use native.Mathlib.Numerals.{add-one}
 use native.Mathlib.Omega.{arith}
 use borrow.Author.Tests.{leb-true, le-leb}
 use lib.Dec.{leb}
-use lib.ListN.{length, get_or, set, take, drop, drop_of_length-le, replicate}
+use lib.ListN.{length, get_or, set, take, drop, replicate}
 use lib.Seq.{take_all}
 use Rattle.std.specs.List.{sum_by}
 use Rattle.std.proofs.lemmas.Bool.{and_parts, and_from, false_from_ne_true}
 use Rattle.std.proofs.lemmas.List.Folds.{sum_by-replicate}
-use Rattle.std.proofs.lemmas.List.Sums.{sum_by-cons, sum_by-append, sum_by-set, sum_by_more, sum_by-drop_more, sum_by-take-drop}
+use Rattle.std.proofs.lemmas.List.Sums.{sum_by-cons, sum_by-set, sum_by_more, sum_by-drop_more}
 use Rattle.basis.specs.Sums.{sum, sum_up, all_at_most}
-
-pub sum-nil : sum [] ≡ 0
-sum-nil = refl
 
 pub sum-cons : (x : ℕ) (xs : List ℕ) → sum (x ∷ xs) ≡ x + sum xs
 sum-cons x xs = sum_by-cons (λ (n : ℕ). n) x xs
@@ -26,9 +22,6 @@ sum-cons x xs = sum_by-cons (λ (n : ℕ). n) x xs
 -- a list of zeros
 pub sum_zeros : (n : ℕ) → sum (replicate n 0) ≡ 0
 sum_zeros n = sum_by-replicate (λ (x : ℕ). x) n 0 ∙ mul-zero n
-
-pub sum-append : (a b : List ℕ) → sum (a ++ b) ≡ sum a + sum b
-sum-append a b = sum_by-append (λ (n : ℕ). n) a b
 
 pub at_most_sum : (l : List ℕ) (i : ℕ) → get_or l i 0 ≤ sum l
 at_most_sum [] i = zero-le
@@ -44,13 +37,6 @@ pub sum_at_most : (m : ℕ) (l : List ℕ) → ((k : ℕ) → get_or l k 0 ≤ m
 sum_at_most m [] h = zero-le
 sum_at_most m (x ∷ l) h =
     omega (arith, sum-cons x l, suc-mul (length l) m, h 0, sum_at_most m l (λ k. h (suc k)))
-
-pub sum_of_zeros : (l : List ℕ) → sum l ≡ 0 → (k : ℕ) → get_or l k 0 ≡ 0
-sum_of_zeros l e k = omega (arith, at_most_sum l k)
-
--- what is passed and what is to come make the whole
-pub sum-parts : (i : ℕ) (l : List ℕ) → sum (take i l) + sum (drop i l) ≡ sum l
-sum-parts i l = sum_by-take-drop (λ (n : ℕ). n) l i
 
 pub all_at_most_lem : (m : ℕ) (l : List ℕ) → all_at_most m l ≡ true → (k : ℕ) → get_or l k 0 ≤ m
 all_at_most_lem m [] e k = zero-le
@@ -83,32 +69,10 @@ sum_up_at_most m f zero h = zero-le
 sum_up_at_most m f (suc n) h =
     omega (arith, suc-mul n m, h n (le_refl (suc n)), sum_up_at_most m f n (λ k p. h k (omega arith)))
 
-pub term_at_most : (f : ℕ → ℕ) (n k : ℕ) → k < n → f k ≤ sum_up f n
-unfolding sum_up
-term_at_most f zero k h = absurd (not-suc-le-zero h)
-term_at_most f (suc n) k h =
-    ⊎_elim (λ (e : k ≡ n). rw e (omega arith)) (λ (p : k < n). omega (arith, term_at_most f n k p))
-    (eq-or-lt_of_le (le_of_suc-le-suc h))
-
 pub sum_up_same : (f g : ℕ → ℕ) (n : ℕ) → ((k : ℕ) → k < n → f k ≡ g k) → sum_up f n ≡ sum_up g n
 unfolding sum_up
 sum_up_same f g zero h = refl
 sum_up_same f g (suc n) h = omega (arith, h n (le_refl (suc n)), sum_up_same f g n (λ k p. h k (omega arith)))
-
-pub sum_up_below : (f g : ℕ → ℕ) (n : ℕ) → ((k : ℕ) → k < n → f k ≤ g k) → sum_up f n ≤ sum_up g n
-unfolding sum_up
-sum_up_below f g zero h = zero-le
-sum_up_below f g (suc n) h = omega (arith, h n (le_refl (suc n)), sum_up_below f g n (λ k p. h k (omega arith)))
-
-pub sum_up_add : (f g : ℕ → ℕ) (n : ℕ) → sum_up (λ k. f k + g k) n ≡ sum_up f n + sum_up g n
-unfolding sum_up
-sum_up_add f g zero = refl
-sum_up_add f g (suc n) = omega (arith, sum_up_add f g n)
-
-pub sum_up_scaled : (c : ℕ) (f : ℕ → ℕ) (n : ℕ) → sum_up (λ k. c * f k) n ≡ c * sum_up f n
-unfolding sum_up
-sum_up_scaled c f zero = sym (mul-zero c)
-sum_up_scaled c f (suc n) = omega (arith, sum_up_scaled c f n, mul-add c (sum_up f n) (f n))
 
 -- a sum of something of each element, as a sum over the places
 module _ {X : Type 0} (f : X → ℕ) where
@@ -121,15 +85,6 @@ module _ {X : Type 0} (f : X → ℕ) where
   pub sum_by_places : (l : List X) (d : X) → sum_by f l ≡ sum_up (λ k. f (get_or l k d)) (length l)
   sum_by_places l d = ap (λ (m : List X). sum_by f m) (sym (take_all (length l) l (le_refl (length l)))) ∙ up_to l d (length l) (le_refl (length l))
 
--- one term changed
-pub sum_up_changed : (f g : ℕ → ℕ) (n i : ℕ) → i < n → ((k : ℕ) → (k ≡ i → ⊥) → f k ≡ g k) → sum_up f n + g i ≡ sum_up g n + f i
-unfolding sum_up
-sum_up_changed f g zero i h e = absurd (not-suc-le-zero h)
-sum_up_changed f g (suc n) i h e =
-    ⊎_elim (λ (q : i ≡ n). rw q (omega (arith, sum_up_same f g n (λ k p. e k (λ r. absurd (omega arith))))))
-    (λ (p : i < n). omega (arith, sum_up_changed f g n i p e, e n (λ r. absurd (omega arith))))
-    (eq-or-lt_of_le (le_of_suc-le-suc h))
-
 -- a list's sum as a sum over its places
 pub sum_as_sum_up : (l : List ℕ) → sum l ≡ sum_up (λ k. get_or l k 0) (length l)
 sum_as_sum_up l = sum_by_places (λ (n : ℕ). n) l 0
@@ -137,10 +92,3 @@ sum_as_sum_up l = sum_by_places (λ (n : ℕ). n) l 0
 -- one turn of a loop that sums: the next element leaves what is to come, and joins what is passed
 pub sum-next : (l : List ℕ) (i : ℕ) → i < length l → sum (drop i l) ≡ get_or l i 0 + sum (drop (i + 1) l)
 sum-next l i h = sum_by-drop_more (λ (n : ℕ). n) l i 0 h
-
-pub sum_passed : (l : List ℕ) (i : ℕ) → i < length l → sum (take (i + 1) l) ≡ sum (take i l) + get_or l i 0
-sum_passed l i h = sum_by_more (λ (n : ℕ). n) l i 0 h
-
--- nothing is to come at the end
-pub sum_done : (l : List ℕ) (i : ℕ) → length l ≤ i → sum (drop i l) ≡ 0
-sum_done l i h = rw (drop_of_length-le l h)

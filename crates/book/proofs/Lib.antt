@@ -1,2 +1,2 @@
--- Laws of the year.
-pub mod YearLaws
+-- Laws of replies.
+pub mod Refused

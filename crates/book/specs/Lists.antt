@@ -3,7 +3,7 @@ use Rattle.std.specs.Prelude.{List, [], ◌∷◌, ℕ, eqb}
 use Rattle.basis.specs.Choice.{pick}
 use Rattle.table.specs.declared.calls.Call.{Call}
 use Rattle.state.specs.declared.kept.Book.{Book}
-use Rattle.state.specs.declared.kept.Reply.{Reply}
+use Rattle.state.specs.State.{Reply}
 use Rattle.book.specs.Step.{step_of}
 
 -- a call, and the readings that are lent with it

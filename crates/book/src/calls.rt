@@ -1,8 +1,9 @@
-// A function for each call, and one for any.
+// A function for each call, and one for any. A refused call leaves its book as it was; an accepted one hands back the book after it.
 ghost use Rattle.std.specs.Prelude.{◌≡◌, []};
 ghost use Rattle.table.specs.declared.units.UnitCall.TheVariants.{Enrol, Test, Availability};
 ghost use Rattle.table.specs.declared.consumers.ConsumerCall.TheVariants.{Declare, Meter};
 ghost use Rattle.table.specs.declared.contracts.ContractCall.TheVariants.{Commit, Release};
+ghost use Rattle.state.specs.State.{replied};
 ghost use Rattle.gathering.specs.Units.{unit_of};
 ghost use Rattle.decision.specs.Consumers.{consumer_of};
 ghost use Rattle.decision.specs.ContractCalls.{contract_of};
@@ -12,16 +13,18 @@ pub use crate::begun::year;
 use crate::settlement::{of_consumer, of_contract, of_unit};
 pub use close::close;
 pub use fix::fix;
-use state::{Book, Reply};
-use table::{Call, ConsumerCall, ContractCall, UnitCall};
+use plant::{Minutes, Trial};
+use quantities::Refusal;
+use state::Book;
+use table::{Call, ConsumerCall, ContractCall, Enrolling, UnitCall};
 
 // Any call, with the readings lent to a test.
 #[tactic(auto, unfolding(crate::specs::Step::step_of))]
-pub fn step(book: Book, call: Call, readings: &[u8]) -> Reply
-    ensures { result ≡ step_of book call readings.now }
+pub fn step(book: Book, call: Call, readings: &[u8]) -> Result<Book, Refusal>
+    ensures { replied book result ≡ step_of book call readings.now }
 {
     match call {
-        Call::Year { nhrm, nhmd, ndhmd } => year(book, nhrm, nhmd, ndhmd),
+        Call::Year(hours) => year(book, hours),
         Call::Fix { dmp } => fix(book, dmp),
         Call::Close { p } => close(book, p),
         Call::Unit { unit, act } => of_unit(book, unit, act, readings),
@@ -35,31 +38,10 @@ pub fn step(book: Book, call: Call, readings: &[u8]) -> Reply
 }
 
 // A unit of a producer, with the fields of its record.
-pub fn unit(
-    book: Book,
-    unit: u32,
-    producer: u32,
-    kind: u32,
-    flags: u32,
-    pic: u32,
-    ppr: u32,
-    e1: u32,
-    e2: u32,
-    cap: u32,
-) -> Reply
-    ensures { result ≡ unit_of book unit (Enrol producer kind flags pic ppr e1 e2 cap) [] }
+pub fn unit(book: Book, unit: u32, enrolling: Enrolling) -> Result<Book, Refusal>
+    ensures { replied book result ≡ unit_of book unit (Enrol enrolling) [] }
 {
-    let act = UnitCall::Enrol {
-        producer,
-        kind,
-        flags,
-        pic,
-        ppr,
-        e1,
-        e2,
-        cap,
-    };
-    of_unit(book, unit, act, b"")
+    of_unit(book, unit, UnitCall::Enrol(enrolling), b"")
 }
 
 // A test of a component, with its readings, four bytes each, low byte first.
@@ -67,68 +49,55 @@ pub fn test(
     book: Book,
     unit: u32,
     component: u32,
-    ending: u32,
-    tc: u32,
-    count: u32,
+    trial: Trial,
     readings: &[u8],
-) -> Reply
-    ensures { result ≡ unit_of book unit (Test component ending tc count) readings.now }
+) -> Result<Book, Refusal>
+    ensures { replied book result ≡ unit_of book unit (Test component trial) readings.now }
 {
-    let act = UnitCall::Test {
-        component,
-        ending,
-        tc,
-        count,
-    };
-    of_unit(book, unit, act, readings)
+    of_unit(book, unit, UnitCall::Test { component, trial }, readings)
 }
 
-// The availability of a component, minutes.
+// The availability of a component.
 pub fn availability(
     book: Book,
     unit: u32,
     component: u32,
-    hd: u32,
-    hmp: u32,
-    hif: u32,
-    hed: u32,
-) -> Reply
-    ensures { result ≡ unit_of book unit (Availability component hd hmp hif hed) [] }
+    minutes: Minutes,
+) -> Result<Book, Refusal>
+    ensures { replied book result ≡ unit_of book unit (Availability component minutes) [] }
 {
-    let act = UnitCall::Availability {
-        component,
-        hd,
-        hmp,
-        hif,
-        hed,
-    };
-    of_unit(book, unit, act, b"")
+    of_unit(
+        book,
+        unit,
+        UnitCall::Availability { component, minutes },
+        b"",
+    )
 }
 
 // A consumer's declaration D and the administrator's projection A, kW.
-pub fn declare(book: Book, consumer: u32, d: u32, a: u32) -> Reply
-    ensures { result ≡ consumer_of book consumer (Declare d a) }
+pub fn declare(book: Book, consumer: u32, d: u32, a: u32) -> Result<Book, Refusal>
+    ensures { replied book result ≡ consumer_of book consumer (Declare d a) }
 {
     of_consumer(book, consumer, ConsumerCall::Declare { d, a })
 }
 
 // A contract of q kW.
-pub fn commit(book: Book, producer: u32, consumer: u32, q: u32) -> Reply
-    ensures { result ≡ contract_of book producer consumer (Commit q) }
+pub fn commit(book: Book, producer: u32, consumer: u32, q: u32) -> Result<Book, Refusal>
+    ensures { replied book result ≡ contract_of book producer consumer (Commit q) }
 {
     of_contract(book, producer, consumer, ContractCall::Commit { q })
 }
 
 // A release of q kW.
-pub fn release(book: Book, producer: u32, consumer: u32, q: u32) -> Reply
-    ensures { result ≡ contract_of book producer consumer (Release q) }
+pub fn release(book: Book, producer: u32, consumer: u32, q: u32) -> Result<Book, Refusal>
+    ensures { replied book result ≡ contract_of book producer consumer (Release q) }
 {
     of_contract(book, producer, consumer, ContractCall::Release { q })
 }
 
 // A consumer's real demand, kW.
-pub fn meter(book: Book, consumer: u32, dreal: u32) -> Reply
-    ensures { result ≡ consumer_of book consumer (Meter dreal) }
+pub fn meter(book: Book, consumer: u32, dreal: u32) -> Result<Book, Refusal>
+    ensures { replied book result ≡ consumer_of book consumer (Meter dreal) }
 {
     of_consumer(book, consumer, ConsumerCall::Meter { dreal })
 }

@@ -5,6 +5,7 @@ mod begun; // begun.rt: the year
 pub mod calls; // calls.rt: a function for each call, and one for any
 mod settlement; // settlement.rt: what is decided of a call, settled in the book
 
-pub use begun::year_number;
+pub use begun::check_year;
 pub use calls::step;
-pub use state::{Book, Reply, fresh};
+pub use settlement::{settle_consumer, settle_contract, settle_unit};
+pub use state::{Book, fresh};

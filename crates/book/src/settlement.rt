@@ -1,70 +1,96 @@
-// What is decided of a call, settled in the book.
+// What is decided of a call, settled in the book: in place, and in a book by value.
 ghost use Rattle.std.specs.Prelude.{◌≡◌};
+ghost use Rattle.quantities.specs.Refusals.{met};
+ghost use Rattle.state.specs.State.{reply_with, replied};
 ghost use Rattle.gathering.specs.Units.{unit_of};
 ghost use Rattle.decision.specs.Consumers.{consumer_of};
 ghost use Rattle.decision.specs.ContractCalls.{contract_of};
 
-use decision::{BalanceAnswer, ConsumerAnswer, consumer_answer, contract_answer};
-use gathering::{UnitAnswer, unit_answer};
-use state::{Book, Reply, consumer_place, unit_place};
+use decision::{consumer_answer, contract_answer};
+use gathering::unit_answer;
+use quantities::Refusal;
+use state::{Book, consumer_place, unit_place};
 use table::{ConsumerCall, ContractCall, UnitCall};
 
 // A call of a unit.
-pub(crate) fn of_unit(mut book: Book, unit: u32, act: UnitCall, readings: &[u8]) -> Reply
-    ensures { result ≡ unit_of book unit act readings.now }
+pub fn settle_unit(
+    book: &mut Book,
+    unit: u32,
+    act: UnitCall,
+    readings: &[u8],
+) -> Result<(), Refusal>
+    ensures { reply_with (met result) book.new ≡ unit_of book.old unit act readings.now }
 {
     let place = unit_place(unit);
-    let stage = book.stage;
-    let u = book.units[place];
-    let answer = unit_answer(unit, act, stage, u, readings);
-    match answer {
-        UnitAnswer::Refused(number) => Reply { number, book },
-        UnitAnswer::Stored(after) => {
-            book.units[place] = after;
-            Reply { number: 0, book }
-        }
-    }
+    book.units[place] = unit_answer(unit, act, book.stage, book.units[place], readings)?;
+    Ok(())
 }
 
 // A call of a consumer.
-pub(crate) fn of_consumer(mut book: Book, consumer: u32, act: ConsumerCall) -> Reply
-    ensures { result ≡ consumer_of book consumer act }
+pub fn settle_consumer(book: &mut Book, consumer: u32, act: ConsumerCall) -> Result<(), Refusal>
+    ensures { reply_with (met result) book.new ≡ consumer_of book.old consumer act }
 {
     let place = consumer_place(consumer);
-    let stage = book.stage;
-    let x = book.consumers[place];
-    let answer = consumer_answer(consumer, act, stage, x);
-    match answer {
-        ConsumerAnswer::Refused(number) => Reply { number, book },
-        ConsumerAnswer::Stored(after) => {
-            book.consumers[place] = after;
-            Reply { number: 0, book }
-        }
-    }
+    book.consumers[place] = consumer_answer(consumer, act, book.stage, book.consumers[place])?;
+    Ok(())
 }
 
 // A call of a contract.
-pub(crate) fn of_contract(mut book: Book, producer: u32, consumer: u32, act: ContractCall) -> Reply
-    ensures { result ≡ contract_of book producer consumer act }
+pub fn settle_contract(
+    book: &mut Book,
+    producer: u32,
+    consumer: u32,
+    act: ContractCall,
+) -> Result<(), Refusal>
+    ensures { reply_with (met result) book.new ≡ contract_of book.old producer consumer act }
 {
-    let place = consumer_place(consumer);
-    let stage = book.stage;
-    let x = book.consumers[place];
-    let declaration = x.declaration;
-    let answer = contract_answer(
+    let declaration = book.consumers[consumer_place(consumer)].declaration;
+    let settled = contract_answer(
         producer,
         consumer,
         act,
-        stage,
+        book.stage,
         declaration,
         &book.balances,
         &book.limits,
-    );
-    match answer {
-        BalanceAnswer::Refused(number) => Reply { number, book },
-        BalanceAnswer::Stored { cell, balance } => {
-            book.balances[cell] = balance;
-            Reply { number: 0, book }
-        }
-    }
+    )?;
+    book.balances[settled.cell] = settled.balance;
+    Ok(())
+}
+
+// The book after a call of a unit.
+#[tactic(auto, using(state::proofs::Replies::refused_reply), unfolding(gathering::specs::Units::unit_of))]
+pub(crate) fn of_unit(
+    mut book: Book,
+    unit: u32,
+    act: UnitCall,
+    readings: &[u8],
+) -> Result<Book, Refusal>
+    ensures { replied book result ≡ unit_of book unit act readings.now }
+{
+    settle_unit(&mut book, unit, act, readings)?;
+    Ok(book)
+}
+
+// The book after a call of a consumer.
+#[tactic(auto, using(state::proofs::Replies::refused_reply), unfolding(decision::specs::Consumers::consumer_of))]
+pub(crate) fn of_consumer(mut book: Book, consumer: u32, act: ConsumerCall) -> Result<Book, Refusal>
+    ensures { replied book result ≡ consumer_of book consumer act }
+{
+    settle_consumer(&mut book, consumer, act)?;
+    Ok(book)
+}
+
+// The book after a call of a contract.
+#[tactic(auto, using(state::proofs::Replies::refused_reply), unfolding(decision::specs::ContractCalls::contract_of))]
+pub(crate) fn of_contract(
+    mut book: Book,
+    producer: u32,
+    consumer: u32,
+    act: ContractCall,
+) -> Result<Book, Refusal>
+    ensures { replied book result ≡ contract_of book producer consumer act }
+{
+    settle_contract(&mut book, producer, consumer, act)?;
+    Ok(book)
 }

@@ -5,9 +5,9 @@
 mod replies; // replies.rt: the replies to a journal's calls
 
 use quantities::{CONSUMERS, PRODUCERS, UNITS};
-use questions::{Adjustment, ProducerTotals, Signed, UnitOffers};
+use questions::{Adjustment, Offers, Signed, Totals};
 use replies::Replies;
-use state::{Book, Declaration, Stage};
+use state::{Book, Stage};
 use std::fmt;
 use std::io::{self, BufWriter, Read as _, Write};
 
@@ -36,34 +36,34 @@ fn cents(charge: u64, credit: u64) -> Shown {
     })
 }
 
-fn show_firm<W: Write>(out: &mut W, book: Book) -> io::Result<()> {
+fn show_firm<W: Write>(out: &mut W, book: &Book) -> io::Result<()> {
     for unit in 1..=UNITS as u32 {
-        if let UnitOffers::Offers { firm, efficient } = questions::unit_offers(book, unit) {
+        if let Some(Offers { firm, efficient }) = questions::unit_offers(book, unit) {
             writeln!(out, "U {unit} {firm} {efficient}")?;
         }
     }
     for producer in 1..=PRODUCERS as u32 {
-        if let ProducerTotals::Totals { limit, committed } = questions::producer_totals(
-            book, producer,
-        ) {
+        if let Some(Totals { limit, committed }) = questions::producer_totals(book, producer) {
             writeln!(out, "P {producer} {limit} {committed}")?;
         }
     }
     for consumer in 1..=CONSUMERS as u32 {
-        if let Declaration::Declared(figures) = questions::declaration_of(book, consumer) {
+        if let Some(figures) = questions::declaration_of(book, consumer).figures() {
             writeln!(out, "D {consumer} {}", figures.df)?;
         }
     }
     Ok(())
 }
 
-fn show_closed<W: Write>(out: &mut W, book: Book) -> io::Result<()> {
+fn show_closed<W: Write>(out: &mut W, book: &Book) -> io::Result<()> {
     for consumer in 1..=CONSUMERS as u32 {
-        if let Adjustment::Settled {
-            adf,
-            charge,
-            credit,
-        } = questions::adjustment_of(book, consumer)
+        if let Some(
+            Adjustment {
+                adf,
+                charge,
+                credit,
+            },
+        ) = questions::adjustment_of(book, consumer)
         {
             writeln!(out, "S {consumer} {} {}", Shown(adf), cents(charge, credit))?;
         }
@@ -77,7 +77,7 @@ fn show_closed<W: Write>(out: &mut W, book: Book) -> io::Result<()> {
 }
 
 // What a book of its stage has to show.
-fn show_book<W: Write>(out: &mut W, book: Book) -> io::Result<()> {
+fn show_book<W: Write>(out: &mut W, book: &Book) -> io::Result<()> {
     match questions::stage_of(book) {
         Stage::Blank | Stage::Gathering => Ok(()),
         Stage::Firm => show_firm(out, book),
@@ -98,7 +98,7 @@ fn main(rt: HostRuntime) -> io::Result<()> {
         writeln!(out, "{place} {number}")?;
     }
     writeln!(out, "stop {} {}", replies.stop(), replies.place)?;
-    show_book(&mut out, replies.book)?;
+    show_book(&mut out, &replies.book)?;
     let accepted = told.iter().filter(|(_, number)| *number == 0).count();
     let refused = told.iter().filter(|(_, number)| *number != 0).count();
     writeln!(out, "R {} {accepted} {refused}", told.len())?;

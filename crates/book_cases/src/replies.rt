@@ -2,6 +2,7 @@
 ghost use Rattle.std.specs.Prelude.{◌-◌, length};
 ghost use Rattle.std.specs.Iterator.{at_most};
 
+use quantities::number_met;
 use record::Read;
 use state::Book;
 use std::mem;
@@ -46,8 +47,8 @@ impl Iterator for Replies<'_> {
             return None;
         };
         let readings = record::readings_of(self.journal, readings, next);
-        let reply = book::step(self.book, call, readings);
-        self.book = reply.book;
-        Some((mem::replace(&mut self.place, next), reply.number))
+        let answer = book::step(self.book, call, readings);
+        self.book = answer.unwrap_or(self.book);
+        Some((mem::replace(&mut self.place, next), number_met(answer)))
     }
 }

@@ -1,4 +1,5 @@
 -- The units after an accepted test or availability.
+use Rattle.std.specs.Prelude.{Option, None, Some}
 use mathlib.Core.Path.{◌≡◌, refl, sym, ap, ◌∙◌, subst⁻¹}
 use mathlib.Core.Bool.{Bool, true, false}
 use mathlib.Core.List.{List, ◌∷◌}
@@ -14,9 +15,6 @@ use Rattle.power.specs.Power.{fresh, maximum_power, test_number, test_of, energy
 use Rattle.plant.specs.Availability.{minutes, availability_number, availability_of}
 use Rattle.quantities.specs.Limits.{greatest_power, greatest_component, units}
 use Rattle.power.specs.declared.quantity.Kw.{Kw}
-use Rattle.power.specs.declared.component.Cap.{Cap}
-use Rattle.power.specs.declared.component.Cap.TheVariants.{Free, At}
-use Rattle.power.specs.declared.component.Availability.TheVariants.{Known}
 use Rattle.power.specs.declared.component.Component.{Component}
 use Rattle.plant.proofs.Results.{test-within-greatest, test-within_cap, availability_keeps_maximum}
 use Rattle.table.proofs.Laws.{Numbered}
@@ -149,7 +147,7 @@ module _ (h : List Event) (b : Book) (k : Kept h b) (unit component : ℕ) (numb
     cap_was = ap (λ (v : Unit). cap_of v.enrolment) (unit_at_lem h b k unit numbered)
 
     -- the test's component is the one of the rows of "Maximum power"
-    by_rows : (x : Component) (cap : Cap) → (test_of x cap ending tc count readings).component ≡ after_test cap ending x (measured_of x.void_trip ending tc count (energy_of count readings))
+    by_rows : (x : Component) (cap : Option Kw) → (test_of x cap ending tc count readings).component ≡ after_test cap ending x (measured_of x.void_trip ending tc count (energy_of count readings))
     unfolding test_of
     by_rows x cap = simp there.1
 
@@ -166,9 +164,9 @@ module _ (h : List Event) (b : Book) (k : Kept h b) (unit component : ℕ) (numb
             ∙ ap (λ c. (test_of before c ending tc count readings).component) (sym cap_was)
         go false q = refl
 
-    within : (cap : Cap) (x : Component) → Within cap x → Within cap (test_of x cap ending tc count readings).component
-    within Free x q = le_refl (maximum_power (test_of x Free ending tc count readings).component).0
-    within (At m) x q = test-within_cap x m ending tc count readings q
+    within : (cap : Option Kw) (x : Component) → Within cap x → Within cap (test_of x cap ending tc count readings).component
+    within None x q = le_refl (maximum_power (test_of x None ending tc count readings).component).0
+    within (Some m) x q = test-within_cap x m ending tc count readings q
 
     after_is : after ≡ (test_of (component_in h unit component) (cap_of (entry_in h unit)) ending tc count readings).component
     after_is =
@@ -201,7 +199,7 @@ module _ (h : List Event) (b : Book) (k : Kept h b) (unit component : ℕ) (numb
     held_is : held ≡ (availability_of (component_in h unit component) (minutes hd hmp hif hed)).component
     held_is = ap (λ x. (availability_of x (minutes hd hmp hif hed)).component) was
 
-    by_minutes : (x : Component) → (availability_of x (minutes hd hmp hif hed)).component ≡ record { result = x.result; void_trip = x.void_trip; availability = Known (minutes hd hmp hif hed) }
+    by_minutes : (x : Component) → (availability_of x (minutes hd hmp hif hed)).component ≡ record { result = x.result; void_trip = x.void_trip; availability = Some (minutes hd hmp hif hed) }
     unfolding availability_of
     by_minutes x = rw available_there.1 refl
 
@@ -209,7 +207,7 @@ module _ (h : List Event) (b : Book) (k : Kept h b) (unit component : ℕ) (numb
     unfolding component_in parts_of
     available_this j = simp (eq-eqb unit unit refl) (go (eqb component j) refl)
       where
-        go : (t : Bool) → eqb component j ≡ t → pick t (record { result = (component_in h unit j).result; void_trip = (component_in h unit j).void_trip; availability = Known (minutes hd hmp hif hed) }) (component_in h unit j) ≡ pick t held (component_in h unit j)
+        go : (t : Bool) → eqb component j ≡ t → pick t (record { result = (component_in h unit j).result; void_trip = (component_in h unit j).void_trip; availability = Some (minutes hd hmp hif hed) }) (component_in h unit j) ≡ pick t held (component_in h unit j)
         go true q =
             sym (by_minutes (component_in h unit j))
             ∙ ap (λ n. (availability_of (component_in h unit n) (minutes hd hmp hif hed)).component) (sym (eqb-true component j q))
@@ -219,9 +217,9 @@ module _ (h : List Event) (b : Book) (k : Kept h b) (unit component : ℕ) (numb
     same_power : maximum_power held ≡ maximum_power (component_in h unit component)
     same_power = ap maximum_power held_is ∙ availability_keeps_maximum (component_in h unit component) (minutes hd hmp hif hed)
 
-    same_within : (cap : Cap) (x y : Component) → maximum_power x ≡ maximum_power y → Within cap y → Within cap x
-    same_within Free x y q w = le_refl (maximum_power x).0
-    same_within (At m) x y q w = subst⁻¹ (λ (p : Kw). p.0 ≤ m.0) q w
+    same_within : (cap : Option Kw) (x y : Component) → maximum_power x ≡ maximum_power y → Within cap y → Within cap x
+    same_within None x y q w = le_refl (maximum_power x).0
+    same_within (Some m) x y q w = subst⁻¹ (λ (p : Kw). p.0 ≤ m.0) q w
 
     pub availability_plants : Plants (availability ∷ h) (set b.units (unit - 1) (available_unit (unit_at b.units unit) component hd hmp hif hed))
     unfolding available_unit parts_of

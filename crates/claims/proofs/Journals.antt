@@ -1,4 +1,5 @@
 -- Every journal, from the laws of the run, demand 3 and the printed close.
+use Rattle.std.specs.Prelude.{Option, None, Some}
 use mathlib.Core.Path.{◌≡◌, refl, subst}
 use mathlib.Core.List.{List, []}
 use Prim.Native.Nat.{ℕ}
@@ -6,8 +7,7 @@ use native.Mathlib.Omega.{arith}
 use Rattle.state.specs.declared.kept.Book.{Book}
 use Rattle.state.specs.State.{fresh_book}
 use Rattle.book.specs.Lists.{accepted_by}
-use Rattle.journal.specs.declared.outcome.FirstRefused.{FirstRefused}
-use Rattle.journal.specs.declared.outcome.FirstRefused.TheVariants.{Nothing, At}
+use Rattle.journal.specs.declared.outcome.Refused.{Refused}
 use Rattle.journal.specs.Run.{named_places, run_of}
 use Rattle.journal.specs.Calls.{calls_of}
 use Rattle.journal.proofs.Calls.{run_book}
@@ -22,9 +22,9 @@ use Rattle.claims.proofs.Theorem.{demand3}
 use Rattle.claims.proofs.Printed.{always_printed}
 
 -- nothing is named
-no_place_named : (f : FirstRefused) → named_places f ≡ [] → f ≡ Nothing
-no_place_named Nothing e = refl
-no_place_named (At first said) e = let n : ◌≡◌ {A = ℕ} 0 1 = cc in absurd (omega arith)
+no_place_named : (f : Option Refused) → named_places f ≡ [] → f ≡ None
+no_place_named None e = refl
+no_place_named (Some first) e = let n : ◌≡◌ {A = ℕ} 0 1 = cc in absurd (omega arith)
 
 pub every_journal : (journal : List ℕ) → EveryJournal journal
 every_journal journal =

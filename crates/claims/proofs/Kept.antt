@@ -1,4 +1,6 @@
 -- What holds between a book and the history of accepted calls, and what every call keeps.
+use Rattle.std.specs.Prelude.{Option, None, Some}
+use Rattle.power.specs.declared.quantity.Kw.{Kw}
 use mathlib.Core.Path.{◌≡◌}
 use mathlib.Core.Bool.{true, false}
 use mathlib.Core.List.{List}
@@ -9,10 +11,8 @@ use Rattle.basis.specs.Sums.{sum, all_at_most}
 use Rattle.share.specs.Division.{division_number}
 use Rattle.power.specs.Power.{fresh, maximum_power}
 use Rattle.quantities.specs.Limits.{greatest_total, greatest_power, producers, consumers}
-use Rattle.power.specs.declared.component.Cap.{Cap}
-use Rattle.power.specs.declared.component.Cap.TheVariants.{Free, At}
 use Rattle.power.specs.declared.component.Component.{Component}
-use Rattle.plant.specs.declared.offer.Hours.{Hours}
+use Rattle.power.specs.declared.component.Hours.{Hours}
 use Rattle.table.proofs.Laws.{Numbered}
 use Rattle.table.specs.Records as name
 use Rattle.state.specs.declared.kept.Stage.{Stage}
@@ -33,9 +33,9 @@ pub record Timing (h : List Event) (stage : Stage) (hours : Hours) (dmp : ℕ) :
   pub dmp_kept : dmp ≡ dmp_in h
 
 -- a component's power is within its unit's authorised injection
-abbrev pub Within : Cap → Component → Type 0
-Within Free x = (maximum_power x).0 ≤ (maximum_power x).0
-Within (At most) x = (maximum_power x).0 ≤ most.0
+abbrev pub Within : Option Kw → Component → Type 0
+Within None x = (maximum_power x).0 ≤ (maximum_power x).0
+Within (Some most) x = (maximum_power x).0 ≤ most.0
 
 pub record Plants (h : List Event) (us : List Unit) : Type 0 where
   pub units_kept : us ≡ units_in h

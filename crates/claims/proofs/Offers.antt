@@ -1,4 +1,6 @@
 -- The efficient offers that a history tells of, and what each producer may commit.
+use Rattle.std.specs.Prelude.{Option, None, Some}
+use Rattle.state.specs.declared.kept.Entry.{Entry}
 use mathlib.Core.Path.{◌≡◌, refl, ap, ◌∙◌, subst}
 use mathlib.Core.Bool.{Bool, true, false}
 use mathlib.Core.List.{List}
@@ -16,8 +18,6 @@ use Rattle.plant.specs.Efficient.{chosen_year}
 use Rattle.plant.proofs.Offers.{offer_at_most_maximum}
 use Rattle.plant.proofs.Selection.{efficient_of_unit, efficient_at_most_offer}
 use Rattle.table.proofs.Laws.{Numbered}
-use Rattle.state.specs.declared.kept.Enrolment.{Enrolment}
-use Rattle.state.specs.declared.kept.Enrolment.TheVariants.{Vacant, Enrolled}
 use Rattle.state.specs.declared.kept.Unit.{Unit}
 use Rattle.state.specs.declared.kept.Book.{Book}
 use Rattle.state.specs.State.{fresh_unit}
@@ -30,12 +30,12 @@ use Rattle.claims.proofs.Tables.{map-tab}
 
 module _ (h : List Event) where
   -- the offer of a unit, and that it is at most its maximum power
-  offer_of : (u : Unit) → offer_by (hours_in h) u u.enrolment ≤ (maximum_power u.set).0
+  offer_of : (u : Unit) → offer_by (hours_in h) u u.enrolment ≤ (maximum_power u.components.set).0
   offer_of u = go u.enrolment
     where
-      go : (e : Enrolment) → offer_by (hours_in h) u e ≤ (maximum_power u.set).0
-      go Vacant = zero-le
-      go (Enrolled e) = offer_at_most_maximum e.plant (hours_in h) u.set u.generator u.storage
+      go : (e : Option Entry) → offer_by (hours_in h) u e ≤ (maximum_power u.components.set).0
+      go None = zero-le
+      go (Some e) = offer_at_most_maximum e.plant (hours_in h) u.components.set u.components.generator u.components.storage
 
   offer_at : (i : ℕ) → i < units → get_or (offers_in h) i 0 ≤ power_in h (suc i)
   unfolding offers_in offers_of units_in

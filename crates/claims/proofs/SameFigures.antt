@@ -1,4 +1,6 @@
 -- The figures of a history that a further call leaves as they were.
+use Rattle.std.specs.Prelude.{Option}
+use Rattle.state.specs.declared.kept.Entry.{Entry}
 use mathlib.Core.Path.{◌≡◌, refl, ap, ◌∙◌}
 use mathlib.Core.Bool.{Bool, true, false}
 use mathlib.Core.List.{List, ◌∷◌}
@@ -11,19 +13,17 @@ use Rattle.quantities.specs.Limits.{units, consumers}
 use Rattle.power.specs.declared.component.Component.{Component}
 use Rattle.table.specs.Records.{CallName}
 use Rattle.table.specs.Records as name
-use Rattle.state.specs.declared.kept.Enrolment.{Enrolment}
 use Rattle.state.specs.declared.kept.Unit.{Unit}
 use Rattle.state.specs.declared.kept.Declaration.{Declaration}
-use Rattle.state.specs.declared.kept.Reading.{Reading}
 use Rattle.state.specs.declared.kept.Consumer.{Consumer}
 use Rattle.book.specs.Lists.{Event}
 use Rattle.claims.specs.History.{is_a, field, about, about_pair, last, last_that, field_in, happened, begun_in, fixed_in, closed_in, hours_in, dmp_in, declared_in, metered_in, sum_over, entry_by, entry_in, component_in}
 use Rattle.claims.specs.Figures.{unit_in, units_in, declarations_in, demand_in, declaration_by, reading_by, consumer_in, consumers_in}
 
-pub unit_is : {a b : Enrolment} {s t g k x y : Component} → a ≡ b → s ≡ t → g ≡ k → x ≡ y → ◌≡◌ {A = Unit} (record { enrolment = a; set = s; generator = g; storage = x }) (record { enrolment = b; set = t; generator = k; storage = y })
-unit_is p q r s = λ i. record { enrolment = p i; set = q i; generator = r i; storage = s i }
+pub unit_is : {a b : Option Entry} {s t g k x y : Component} → a ≡ b → s ≡ t → g ≡ k → x ≡ y → ◌≡◌ {A = Unit} (record { enrolment = a; components = record { set = s; generator = g; storage = x } }) (record { enrolment = b; components = record { set = t; generator = k; storage = y } })
+unit_is p q r s = λ i. record { enrolment = p i; components = record { set = q i; generator = r i; storage = s i } }
 
-pub consumer_is : {a b : Declaration} {r s : Reading} → a ≡ b → r ≡ s → ◌≡◌ {A = Consumer} (record { declaration = a; reading = r }) (record { declaration = b; reading = s })
+pub consumer_is : {a b : Declaration} {r s : Option ℕ} → a ≡ b → r ≡ s → ◌≡◌ {A = Consumer} (record { declaration = a; reading = r }) (record { declaration = b; reading = s })
 consumer_is p q = λ i. record { declaration = p i; reading = q i }
 
 module _ (e : Event) (h : List Event) where

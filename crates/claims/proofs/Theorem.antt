@@ -1,4 +1,5 @@
 -- Demand 3, from what every list keeps.
+use Rattle.std.specs.Prelude.{Some}
 use mathlib.Core.Path.{◌≡◌, refl, sym, ap, ◌∙◌, subst}
 use mathlib.Core.Bool.{Bool, true, false}
 use mathlib.Core.List.{List, [], map}
@@ -16,7 +17,6 @@ use Rattle.share.proofs.Accepted.{accepted}
 use Rattle.share.proofs.Laws.{sum-shares, share_near}
 use Rattle.quantities.specs.Limits.{units, producers, consumers}
 use Rattle.quantities.specs.Flags.{flagged, injection_given}
-use Rattle.power.specs.declared.component.Cap.TheVariants.{At}
 use Rattle.table.specs.Records as name
 use Rattle.table.proofs.Laws.{Numbered}
 use Rattle.state.specs.declared.kept.Consumer.{Consumer}
@@ -79,7 +79,7 @@ module _ (h : List Event) (b : Book) (k : Kept h b) where
   -- the injection of a unit whose call gives one
   injection : (u : ℕ) (e : Event) → Numbered units u → last_that (about name.Unit u) h ≡ last e → flagged injection_given (field 3 e) ≡ true → efficient_offer_in h u ≤ field 4 e
   injection u e nu q f =
-      let cap : cap_of (entry_in h u) ≡ At (record { 0 = field 4 e }) = ap (λ l. cap_of (entry_by l)) q ∙ rw f refl in
+      let cap : cap_of (entry_in h u) ≡ Some (record { 0 = field 4 e }) = ap (λ l. cap_of (entry_by l)) q ∙ rw f refl in
       le_trans (within_power h u nu) (subst (λ c. Within c (component_in h u 0)) cap (k.plants.power_capped u 0))
 
   -- the money, where the charges were divided and where there was nothing to divide by

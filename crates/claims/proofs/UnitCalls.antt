@@ -1,4 +1,6 @@
 -- The calls of a unit: an accepted one keeps what is kept, and the number of any one.
+use Rattle.std.specs.Prelude.{Option, None, Some}
+use Rattle.power.specs.declared.quantity.Kw.{Kw}
 use mathlib.Core.Path.{◌≡◌, refl, sym, ap, ◌∙◌}
 use mathlib.Core.Bool.{Bool, true, false}
 use mathlib.Core.List.{List, ◌∷◌}
@@ -12,8 +14,6 @@ use Rattle.basis.specs.Choice.{pick}
 use Rattle.power.specs.Power.{fresh, count_fits, test_number}
 use Rattle.plant.specs.Availability.{minutes, minutes_fit, availability_number}
 use Rattle.quantities.specs.Limits.{units}
-use Rattle.power.specs.declared.component.Cap.{Cap}
-use Rattle.power.specs.declared.component.Cap.TheVariants.{Free, At}
 use Rattle.table.specs.Records.{parts_of}
 use Rattle.table.specs.Records as name
 use Rattle.table.specs.Ranges.{call_number, rest_in_range}
@@ -46,9 +46,9 @@ vacant_never never z = refl
 vacant_never (last e) z = absurd (omega arith)
 
 -- without a test every injection is kept to
-fresh-within : (c : Cap) → Within c fresh
-fresh-within Free = le_refl 0
-fresh-within (At m) = zero-le
+fresh-within : (c : Option Kw) → Within c fresh
+fresh-within None = le_refl 0
+fresh-within (Some m) = zero-le
 
 -- the units after an accepted enrolment
 module _ (h : List Event) (b : Book) (k : Kept h b) (unit producer kind flags pic ppr e1 e2 cap : ℕ) (readings : List ℕ) (numbered : Numbered units unit) (z : vacancy (unit_at b.units unit).enrolment ≡ 0) where

@@ -4,7 +4,7 @@ use mathlib.Core.Bool.{true, false, false≢true}
 use mathlib.Core.List.{List, ◌∷◌}
 use Prim.Native.Nat.{ℕ, ◌+◌}
 use lib.ListN.{get_or}
-use Rattle.plant.specs.declared.offer.Hours.{Hours}
+use Rattle.power.specs.declared.component.Hours.{Hours}
 use Rattle.table.specs.Records as name
 use Rattle.state.specs.declared.kept.Stage.{Stage}
 use Rattle.state.specs.declared.kept.Unit.{Unit}

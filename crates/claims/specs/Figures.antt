@@ -1,5 +1,5 @@
 -- The figures of document 01, taken from the accepted calls' fields and readings alone.
-use Rattle.std.specs.Prelude.{List, ℕ, suc, ◌-◌, eqb, get_or}
+use Rattle.std.specs.Prelude.{List, ℕ, suc, ◌-◌, eqb, get_or, Option, None, Some}
 use Rattle.basis.specs.Choice.{pick}
 use Rattle.basis.specs.Sums.{sum, sum_up}
 use Rattle.basis.specs.Tables.{tab}
@@ -9,8 +9,6 @@ use Rattle.quantities.specs.Limits.{units, consumers}
 use Rattle.state.specs.declared.kept.Unit.{Unit}
 use Rattle.state.specs.declared.kept.Declaration.{Declaration}
 use Rattle.state.specs.declared.kept.Declaration.TheVariants.{Undeclared, Declared}
-use Rattle.state.specs.declared.kept.Reading.{Reading}
-use Rattle.state.specs.declared.kept.Reading.TheVariants.{Unread, Metered}
 use Rattle.state.specs.declared.kept.Consumer.{Consumer}
 use Rattle.book.specs.Lists.{Event}
 use Rattle.fix.specs.Fix.{offers_of, efficient_in, producer_by}
@@ -22,9 +20,12 @@ abbrev pub unit_in : List Event → ℕ → Unit
 unit_in h u =
     record {
       enrolment = entry_in h u;
-      set = component_in h u 0;
-      generator = component_in h u 1;
-      storage = component_in h u 2;
+      components =
+          record {
+            set = component_in h u 0;
+            generator = component_in h u 1;
+            storage = component_in h u 2;
+          };
     }
 
 unfoldable pub units_in : List Event → List Unit
@@ -65,9 +66,9 @@ abbrev pub declaration_by : ℕ → Last → Declaration
 declaration_by df never = Undeclared
 declaration_by df (last e) = Declared (record { d = field 1 e; a = field 2 e; df = df })
 
-abbrev pub reading_by : Last → Reading
-reading_by never = Unread
-reading_by (last e) = Metered (field 1 e)
+abbrev pub reading_by : Last → Option ℕ
+reading_by never = None
+reading_by (last e) = Some (field 1 e)
 
 abbrev pub consumer_in : List Event → ℕ → Consumer
 consumer_in h c =

@@ -1,16 +1,14 @@
 -- What the accepted calls of a list say, the last one first. No book stands here.
-use Rattle.std.specs.Prelude.{Bool, true, false, List, [], ◌∷◌, ℕ, ◌+◌, eqb, get_or}
+use Rattle.state.specs.declared.kept.Entry.{Entry}
+use Rattle.power.specs.declared.quantity.Kw.{Kw}
+use Rattle.std.specs.Prelude.{Bool, true, false, List, [], ◌∷◌, ℕ, ◌+◌, eqb, get_or, Option, None, Some}
 use Rattle.basis.specs.Choice.{pick}
 use Rattle.power.specs.Power.{fresh, energy_of, measured_of, after_test}
 use Rattle.plant.specs.Availability.{minutes}
-use Rattle.power.specs.declared.component.Availability.TheVariants.{Known}
-use Rattle.power.specs.declared.component.Cap.{Cap}
 use Rattle.power.specs.declared.component.Component.{Component}
-use Rattle.plant.specs.declared.offer.Hours.{Hours}
+use Rattle.power.specs.declared.component.Hours.{Hours}
 use Rattle.table.specs.Records.{parts_of, CallName, is_named}
 use Rattle.table.specs.Records as name
-use Rattle.state.specs.declared.kept.Enrolment.{Enrolment}
-use Rattle.state.specs.declared.kept.Enrolment.TheVariants.{Vacant, Enrolled}
 use Rattle.book.specs.Lists.{Event}
 use Rattle.gathering.specs.Units.{entry_of, cap_of}
 
@@ -97,16 +95,16 @@ abbrev pub releases_in : List Event → ℕ → ℕ → ℕ
 releases_in h p c = sum_over name.Release p c h
 
 -- what a unit was enrolled with: "A producer's units are those of its accepted unit calls"
-abbrev pub entry_by : Last → Enrolment
-entry_by never = Vacant
+abbrev pub entry_by : Last → Option Entry
+entry_by never = None
 entry_by (last e) =
-    Enrolled (entry_of (field 1 e) (field 2 e) (field 3 e) (field 4 e) (field 5 e) (field 6 e) (field 7 e) (field 8 e))
+    Some (entry_of (field 1 e) (field 2 e) (field 3 e) (field 4 e) (field 5 e) (field 6 e) (field 7 e) (field 8 e))
 
-abbrev pub entry_in : List Event → ℕ → Enrolment
+abbrev pub entry_in : List Event → ℕ → Option Entry
 entry_in h u = entry_by (last_that (about name.Unit u) h)
 
 -- a component after a test, by the rows of "Maximum power"; after an availability
-abbrev pub after_one : Event → Cap → ℕ → ℕ → Component → Component
+abbrev pub after_one : Event → Option Kw → ℕ → ℕ → Component → Component
 after_one e cap u k x =
     pick (about_pair name.Test u k e)
     (after_test cap (field 2 e) x
@@ -115,7 +113,7 @@ after_one e cap u k x =
     (record {
       result = x.result;
       void_trip = x.void_trip;
-      availability = Known (minutes (field 2 e) (field 3 e) (field 4 e) (field 5 e));
+      availability = Some (minutes (field 2 e) (field 3 e) (field 4 e) (field 5 e));
     })
     x)
 

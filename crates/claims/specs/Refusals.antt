@@ -4,7 +4,7 @@ use Rattle.basis.specs.Choice.{pick}
 use Rattle.basis.specs.Sums.{sum_up, all_at_most}
 use Rattle.quantities.specs.Limits.{greatest_power, consumers}
 use Rattle.power.specs.Power.{count_fits}
-use Rattle.plant.specs.Availability.{minutes, minutes_fit}
+use Rattle.plant.specs.Availability.{minutes_fit}
 use Rattle.table.specs.declared.calls.Call.{Call}
 use Rattle.table.specs.declared.calls.Call.TheVariants as call
 use Rattle.table.specs.declared.units.UnitCall.TheVariants as unit-call
@@ -42,22 +42,22 @@ balances_in h p = sum_up (λ i. balance_in h p (suc i)) consumers
 
 -- the numbers in their order, each under its condition; 0 where none is met
 unfoldable pub number_in : List Event → Call → List ℕ → ℕ
-number_in h (call.Year nhrm nhmd ndhmd) readings = ranged (call.Year nhrm nhmd ndhmd) [] (at_stage 0 h 0)
+number_in h (call.Year hours) readings = ranged (call.Year hours) [] (at_stage 0 h 0)
 number_in h (call.Fix dmp) readings = ranged (call.Fix dmp) [] (at_stage 1 h (pick (eqb (total_declared_in h) 0) 13 0))
 number_in h (call.Close p) readings =
     ranged (call.Close p) [] (at_stage 2 h (pick (all_at_most greatest_power (adjusted_demands_in h)) 0 14))
-number_in h (call.Unit unit (unit-call.Enrol producer kind flags pic ppr e1 e2 cap)) readings =
-    ranged (call.Unit unit (unit-call.Enrol producer kind flags pic ppr e1 e2 cap)) [] (at_stage 1 h (already_enrolled h unit))
-number_in h (call.Unit unit (unit-call.Test component ending tc count)) readings =
-    ranged (call.Unit unit (unit-call.Test component ending tc count)) readings
+number_in h (call.Unit unit (unit-call.Enrol e)) readings =
+    ranged (call.Unit unit (unit-call.Enrol e)) [] (at_stage 1 h (already_enrolled h unit))
+number_in h (call.Unit unit (unit-call.Test component t)) readings =
+    ranged (call.Unit unit (unit-call.Test component t)) readings
     (at_stage 1 h
     (enrolled_as (last_that (about name.Unit unit) h)
-    (λ kind. pick (has_test kind component) (pick (count_fits ending tc count) 0 8) 7)))
-number_in h (call.Unit unit (unit-call.Availability component hd hmp hif hed)) readings =
-    ranged (call.Unit unit (unit-call.Availability component hd hmp hif hed)) []
+    (λ kind. pick (has_test kind component) (pick (count_fits t.ending t.tc t.count) 0 8) 7)))
+number_in h (call.Unit unit (unit-call.Availability component m)) readings =
+    ranged (call.Unit unit (unit-call.Availability component m)) []
     (at_stage 1 h
     (enrolled_as (last_that (about name.Unit unit) h)
-    (λ kind. pick (has_availability kind component) (pick (minutes_fit (minutes hd hmp hif hed)) 0 9) 7)))
+    (λ kind. pick (has_availability kind component) (pick (minutes_fit m) 0 9) 7)))
 number_in h (call.Consumer consumer (consumer-call.Declare d a)) readings =
     ranged (call.Consumer consumer (consumer-call.Declare d a)) [] (at_stage 1 h 0)
 number_in h (call.Consumer consumer (consumer-call.Meter dreal)) readings =

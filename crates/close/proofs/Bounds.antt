@@ -10,7 +10,7 @@ use lib.ListN.{get_or}
 use Rattle.basis.specs.Choice.{pick}
 use Rattle.basis.specs.Sums.{sum, all_at_most}
 use Rattle.basis.specs.Tables.{tab}
-use Rattle.basis.proofs.Sums.{all_at_most_lem, sum_up_at_most}
+use Rattle.basis.proofs.Sums.{sum_up_at_most}
 use Rattle.basis.proofs.Tables.{sum-tab}
 use Rattle.quantities.specs.Limits.{greatest_total, greatest_power, greatest_price, consumers}
 use Rattle.state.specs.declared.kept.Declaration.{Declaration}
@@ -37,10 +37,10 @@ charge_at_most p dfa (Declared f) h k = go (ltb (100 * f.d) (98 * f.a))
     go false = zero-le
 
 -- all charges are within the range of the division: of so many consumers, each at most the greatest
-pub charges_at_most : (p : ℕ) (adjusted : List ℕ) (xs : List Consumer) → all_at_most greatest_power adjusted ≡ true → p ≤ greatest_price → sum (tab (λ i. charge_by p (get_or adjusted i 0) (get_or xs i fresh_consumer).declaration) consumers) ≤ greatest_total
+pub charges_at_most : (p : ℕ) (adjusted : List ℕ) (xs : List Consumer) → ((k : ℕ) → get_or adjusted k 0 ≤ greatest_power) → p ≤ greatest_price → sum (tab (λ i. charge_by p (get_or adjusted i 0) (get_or xs i fresh_consumer).declaration) consumers) ≤ greatest_total
 charges_at_most p adjusted xs e k =
     let f : ℕ → ℕ = λ i. charge_by p (get_or adjusted i 0) (get_or xs i fresh_consumer).declaration in
-    omega (arith, sum-tab f consumers, sum_up_at_most greatest_charge f consumers (λ i _. charge_at_most p (get_or adjusted i 0) (get_or xs i fresh_consumer).declaration (all_at_most_lem greatest_power adjusted e i) k))
+    omega (arith, sum-tab f consumers, sum_up_at_most greatest_charge f consumers (λ i _. charge_at_most p (get_or adjusted i 0) (get_or xs i fresh_consumer).declaration (e i) k))
 
 -- a close that is accepted has its price in range and no DFA above the greatest
 pub record AcceptedClose (dmp : ℕ) (xs : List Consumer) (p : ℕ) : Type 0 where

@@ -1,23 +1,26 @@
 -- The close: charges fit, figures by consumer, and what the division of the charges leaves.
+use Rattle.std.specs.Prelude.{Option, Result, Ok, Err, IfOk}
+use Rattle.std.specs.Result.{result_unwrap_or}
 use mathlib.Core.Path.{◌≡◌, refl, sym, ap, ◌∙◌}
 use mathlib.Core.Bool.{Bool, true, false}
 use mathlib.Core.List.{List, [], ◌∷◌, map}
 use Prim.Native.Nat.{ℕ, zero, suc, ◌-◌, ◌*◌, ◌/◌, ◌^◌, ◌≤◌, ◌<◌}
 use native.Mathlib.Nat.{zero-mul, zero-div}
 use native.Mathlib.Omega.{arith}
-use borrow.Author.Tests.{eqb-true, eqb-false}
 use lib.Dec.{eqb}
 use lib.ListN.{length, get_or, replicate, length-map, get_or-map}
 use Rattle.basis.specs.Choice.{pick}
 use Rattle.basis.specs.Sums.{sum, all_at_most}
 use Rattle.basis.specs.Tables.{tab}
-use Rattle.basis.proofs.Sums.{sum_zeros}
+use Rattle.basis.proofs.Sums.{sum_zeros, all_at_most_lem}
 use Rattle.basis.proofs.Tables.{tab_same}
-use Rattle.share.specs.Division.{Divides, division_number, shares}
+use Rattle.share.specs.Division.{division_number, shares}
+use Rattle.quantities.specs.declared.refusals.Refusal.{Refusal}
+use Rattle.quantities.specs.Refusals.{refusal_number, met}
+use Rattle.quantities.proofs.RefusalLaws.{refusing}
 use Rattle.quantities.specs.Limits.{greatest_total, greatest_power, greatest_price, consumers}
 use Rattle.state.specs.declared.kept.Declaration.{Declaration}
 use Rattle.state.specs.declared.kept.Declaration.TheVariants.{Undeclared, Declared}
-use Rattle.state.specs.declared.kept.Reading.{Reading}
 use Rattle.state.specs.declared.kept.Consumer.{Consumer}
 use Rattle.state.specs.declared.kept.CloseFigures.{CloseFigures}
 use Rattle.table.specs.Ranges.{call_number}
@@ -26,50 +29,46 @@ use Rattle.table.proofs.Table.{close-ranged}
 use Rattle.state.specs.declared.kept.Stage.{Stage}
 use Rattle.state.specs.declared.kept.Stage.TheVariants.{Firm}
 use Rattle.state.specs.declared.kept.Book.{Book}
-use Rattle.state.specs.State.{fresh_consumer, stage_number, ranged, staged}
-use Rattle.state.proofs.RangeStage.{refused as refused-reply}
+use Rattle.state.specs.State.{fresh_consumer, stage_number, ranged, staged, replied}
+use Rattle.state.proofs.Replies.{refused_reply}
 use Rattle.fix.specs.Fix.{weights_of}
 use Rattle.close.specs.Close.{declared_real, real_demand, reals_of, adjusted_by, adjusted_of, adjusted_in, surplus_by, charge_by, surpluses_in, charges_in, credits_of, undistributed_of, close_rest, close_number_by, close_number_from, close_number, figures_of, closed, close_of}
 use Rattle.basis.proofs.Choice.{peel_not, handed_on}
 use Rattle.basis.proofs.Filling.{tab-map}
-use Rattle.fix.proofs.DivisionLaws.{accepted, refused, whole}
 use Rattle.close.proofs.Bounds.{charges_at_most, AcceptedClose}
-
--- the charges of all consumers fit 64 bits
-pub charges_fit : (p : ℕ) (adjusted : List ℕ) (xs : List Consumer) → all_at_most greatest_power adjusted ≡ true → p ≤ greatest_price → sum (tab (λ i. charge_by p (get_or adjusted i 0) (get_or xs i fresh_consumer).declaration) consumers) < 2 ^ 64
-charges_fit p adjusted xs e k = omega (arith, charges_at_most p adjusted xs e k)
 
 pub length_adjusted : (dmp : ℕ) (xs : List Consumer) → length (adjusted_in dmp xs) ≡ length xs
 unfolding adjusted_in
 length_adjusted dmp xs = length-map xs (adjusted_of dmp (sum (weights_of xs)))
 
 -- DFA by Dreal, that of the undeclared being 0
-pub by_real : (dmp total : ℕ) (d : Declaration) (r : Reading) → declared_real d r * dmp / total ≡ adjusted_by dmp total r d
+pub by_real : (dmp total : ℕ) (d : Declaration) (r : Option ℕ) → declared_real d r * dmp / total ≡ adjusted_by dmp total r d
 by_real dmp total Undeclared r = ap (λ n. n / total) (zero-mul dmp) ∙ zero-div total
 by_real dmp total (Declared f) r = refl
 
--- DFA of one consumer
-pub adjusted_at : (dmp total : ℕ) (xs : List Consumer) (i : ℕ) → total ≡ sum (weights_of xs) → real_demand (get_or xs i fresh_consumer) * dmp / total ≡ get_or (adjusted_in dmp xs) i 0
-unfolding adjusted_in
-adjusted_at dmp total xs i e =
-    let x = get_or xs i fresh_consumer in
-    by_real dmp total x.declaration x.reading
-    ∙ ap (λ t. adjusted_of dmp t x) e
-    ∙ sym (get_or-map (adjusted_of dmp (sum (weights_of xs))) xs i fresh_consumer)
-
 -- the DFA of all consumers, by their Dreal
-pub as_adjusted : (dmp total : ℕ) (xs : List Consumer) → map (λ x. real_demand x * dmp / total) xs ≡ map (adjusted_of dmp total) xs
+as_adjusted : (dmp total : ℕ) (xs : List Consumer) → map (λ x. real_demand x * dmp / total) xs ≡ map (adjusted_of dmp total) xs
 as_adjusted dmp total [] = refl
 as_adjusted dmp total (x ∷ xs) = λ i. by_real dmp total x.declaration x.reading i ∷ as_adjusted dmp total xs i
+
+pub by_reals : (dmp total : ℕ) (xs : List Consumer) → total ≡ sum (weights_of xs) → map (λ x. real_demand x * dmp / total) xs ≡ adjusted_in dmp xs
+unfolding adjusted_in
+by_reals dmp total xs e = as_adjusted dmp total xs ∙ ap (λ t. map (adjusted_of dmp t) xs) e
+
+-- none is above the greatest
+pub each_within : (dmp total : ℕ) (xs : List Consumer) → total ≡ sum (weights_of xs) → all_at_most greatest_power (adjusted_in dmp xs) ≡ true → (k : ℕ) → real_demand (get_or xs k fresh_consumer) * dmp / total ≤ greatest_power
+unfolding adjusted_in
+each_within dmp total xs e h k =
+    let x = get_or xs k fresh_consumer in
+    let dfa : real_demand x * dmp / total ≡ get_or (adjusted_in dmp xs) k 0 =
+    by_real dmp total x.declaration x.reading
+        ∙ ap (λ t. adjusted_of dmp t x) e
+        ∙ sym (get_or-map (adjusted_of dmp (sum (weights_of xs))) xs k fresh_consumer) in
+    omega (arith, dfa, all_at_most_lem greatest_power (adjusted_in dmp xs) h k)
 
 from_reals : (dmp total : ℕ) (xs : List Consumer) → map (λ real. real * dmp / total) (map real_demand xs) ≡ map (λ x. real_demand x * dmp / total) xs
 from_reals dmp total [] = refl
 from_reals dmp total (x ∷ xs) = ap (λ l. real_demand x * dmp / total ∷ l) (from_reals dmp total xs)
-
-pub quotient_at_lem : (dmp total : ℕ) (reals : List ℕ) (i : ℕ) → get_or (map (λ real. real * dmp / total) reals) i 0 ≡ get_or reals i 0 * dmp / total
-quotient_at_lem dmp total [] i = sym (ap (λ n. n / total) (zero-mul dmp) ∙ zero-div total)
-quotient_at_lem dmp total (r ∷ reals) zero = refl
-quotient_at_lem dmp total (r ∷ reals) (suc i) = quotient_at_lem dmp total reals i
 
 pub number_from : (stage : Stage) (dmp : ℕ) (xs : List Consumer) (p : ℕ) → close_number_from stage dmp (sum (weights_of xs)) (reals_of xs) p ≡ close_number_by stage dmp xs p
 unfolding close_number_from close_number_by reals_of adjusted_in
@@ -97,26 +96,20 @@ module _ (dmp : ℕ) (adjusted : List ℕ) (xs : List Consumer) (e : adjusted �
 -- the charges of an accepted close
 pub charges_small : (dmp : ℕ) (xs : List Consumer) (p : ℕ) → AcceptedClose dmp xs p → length xs ≡ consumers → sum (charges_in p dmp xs) ≤ greatest_total
 charges_small dmp xs p a n =
-    rw (← charges_by_consumer dmp (adjusted_in dmp xs) xs refl n p) (charges_at_most p (adjusted_in dmp xs) xs a.within a.price)
+    rw (← charges_by_consumer dmp (adjusted_in dmp xs) xs refl n p) (charges_at_most p (adjusted_in dmp xs) xs (all_at_most_lem greatest_power (adjusted_in dmp xs) a.within) a.price)
 
--- the division of the charges by the positive ADF
-module _ (T : ℕ) (ws new : List ℕ) (number : ℕ) (full : length ws ≡ consumers) (d : Divides T ws (replicate consumers 0) number new) where
-  pub credits : new ≡ credits_of T ws
+-- the charges divided by the positive ADF, nothing where none is positive; what is not credited is undistributed
+module _ (T : ℕ) (ws : List ℕ) where
+  pub credited : (answer : Result (List ℕ) Refusal) → met answer ≡ division_number T ws consumers → IfOk answer (λ amounts. amounts ≡ shares T ws) → result_unwrap_or answer (replicate consumers 0) ≡ credits_of T ws
   unfolding credits_of
-  credits = go (eqb (division_number T ws consumers) 0) refl
-    where
-      go : (t : Bool) → eqb (division_number T ws consumers) 0 ≡ t → new ≡ pick t (shares T ws) (replicate consumers 0)
-      go true e = accepted T ws new number full d (d.answer ∙ eqb-true _ 0 e)
-      go false e = refused T ws new number full d (λ q. eqb-false _ 0 e (sym d.answer ∙ q))
+  credited (Ok amounts) n shared = rw (← n) shared
+  credited (Err refusal) n shared = rw (← n, refusing refusal) refl
 
-  -- what is not credited is undistributed
-  pub undistributed : (sum new ≤ T) × (T - sum new ≡ undistributed_of T ws)
+  pub undistributed : (answer : Result (List ℕ) Refusal) → met answer ≡ division_number T ws consumers → IfOk answer (λ amounts. sum amounts ≡ T)
+      → (sum (result_unwrap_or answer (replicate consumers 0)) ≤ T) × (T - sum (result_unwrap_or answer (replicate consumers 0)) ≡ undistributed_of T ws)
   unfolding undistributed_of
-  undistributed = go (eqb (division_number T ws consumers) 0) refl
-    where
-      go : (t : Bool) → eqb (division_number T ws consumers) 0 ≡ t → (sum new ≤ T) × (T - sum new ≡ pick t 0 T)
-      go true e = let s = whole T ws new number full d (d.answer ∙ eqb-true _ 0 e) in (omega arith, omega arith)
-      go false e = let s : sum new ≡ 0 = ap sum (refused T ws new number full d (λ q. eqb-false _ 0 e (sym d.answer ∙ q))) ∙ sum_zeros consumers in (omega arith, omega arith)
+  undistributed (Ok amounts) n whole = rw (← n) (omega arith, omega arith)
+  undistributed (Err refusal) n whole = rw (← n, refusing refusal, sum_zeros consumers) (omega arith, omega arith)
 
 -- what is found one after the other makes the figures of the close
 pub figures_with : (p dmp : ℕ) (xs : List Consumer) (adjusted charges surpluses shared : List ℕ) (charged credited rest : ℕ)
@@ -138,6 +131,6 @@ accepted-close stage dmp xs p e =
     }
 
 -- a close that is refused returns the old book
-pub refused-close : (b : Book) (p : ℕ) {number : ℕ} → number ≡ close_number b p → (number ≡ 0 → ⊥) → close_of b p ≡ record { number = number; book = b }
+pub refused-close : (b : Book) (p : ℕ) (refusal : Refusal) → refusal_number refusal ≡ close_number b p → replied b (Err refusal) ≡ close_of b p
 unfolding close_of
-refused-close b p e h = sym (refused-reply b (closed b p) e h)
+refused-close b p refusal e = refused_reply b (closed b p) refusal e

@@ -1,5 +1,5 @@
 -- The close (2.6.5.2), declared consumers only.
-use Rattle.std.specs.Prelude.{List, [], map, ℕ, ◌-◌, ◌*◌, ◌/◌, ltb, eqb, replicate}
+use Rattle.std.specs.Prelude.{List, [], map, ℕ, ◌-◌, ◌*◌, ◌/◌, ltb, eqb, replicate, Option, None, Some}
 use Rattle.basis.specs.Choice.{pick}
 use Rattle.basis.specs.Sums.{sum, all_at_most}
 use Rattle.share.specs.Division.{division_number, shares}
@@ -9,22 +9,20 @@ use Rattle.state.specs.declared.kept.Stage.{Stage}
 use Rattle.state.specs.declared.kept.Stage.TheVariants.{Firm, Closed}
 use Rattle.state.specs.declared.kept.Declaration.{Declaration}
 use Rattle.state.specs.declared.kept.Declaration.TheVariants.{Undeclared, Declared}
-use Rattle.state.specs.declared.kept.Reading.{Reading}
-use Rattle.state.specs.declared.kept.Reading.TheVariants.{Unread, Metered}
 use Rattle.state.specs.declared.kept.Consumer.{Consumer}
 use Rattle.state.specs.declared.kept.CloseFigures.{CloseFigures}
 use Rattle.state.specs.declared.kept.Book.{Book}
-use Rattle.state.specs.declared.kept.Reply.{Reply}
+use Rattle.state.specs.State.{Reply}
 use Rattle.state.specs.State.{ranged, staged, reply_of}
 use Rattle.fix.specs.Fix.{weights_of}
 
 -- Dreal; "no reading counts as 0"
-abbrev pub real_of : Reading → ℕ
-real_of Unread = 0
-real_of (Metered dreal) = dreal
+abbrev pub real_of : Option ℕ → ℕ
+real_of None = 0
+real_of (Some dreal) = dreal
 
 -- Dreal of each consumer, 0 of the undeclared, who have no DFA
-abbrev pub declared_real : Declaration → Reading → ℕ
+abbrev pub declared_real : Declaration → Option ℕ → ℕ
 declared_real Undeclared reading = 0
 declared_real (Declared f) reading = real_of reading
 
@@ -35,7 +33,7 @@ unfoldable pub reals_of : List Consumer → List ℕ
 reals_of xs = map real_demand xs
 
 -- DFA = Dreal·DMP / ΣD
-abbrev pub adjusted_by : ℕ → ℕ → Reading → Declaration → ℕ
+abbrev pub adjusted_by : ℕ → ℕ → Option ℕ → Declaration → ℕ
 adjusted_by dmp total reading Undeclared = 0
 adjusted_by dmp total reading (Declared f) = real_of reading * dmp / total
 

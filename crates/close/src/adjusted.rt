@@ -1,73 +1,46 @@
 // DFA, the adjusted demand of each consumer, and number 14.
-ghost use Rattle.std.specs.Prelude.{◌≡◌, true, map, ◌*◌, ◌/◌};
+ghost use Rattle.std.specs.Prelude.{◌≡◌, ℕ, map, ◌*◌, ◌/◌, ◌≤◌, get_or};
 ghost use Rattle.basis.specs.Sums.{sum, all_at_most};
 ghost use Rattle.quantities.specs.Limits.{greatest_power};
 ghost use Rattle.fix.specs.Fix.{weights_of};
-ghost use Rattle.close.specs.Close.{real_of, real_demand, reals_of, adjusted_in};
+ghost use Rattle.state.specs.State.{fresh_consumer};
+ghost use Rattle.close.specs.Close.{real_demand, reals_of};
 
-use fix::declared;
+use fix::weights;
 use quantities::{CONSUMERS, GREATEST_POWER};
-use state::{Consumer, Declaration, Reading};
+use state::{Consumer, Declaration};
+use std::array;
 
 // What all consumers declared.
-pub fn total_declared(consumers: [Consumer; CONSUMERS]) -> u64
-    ensures { result ≡ sum (weights_of consumers) }
+pub fn total_declared(consumers: &[Consumer; CONSUMERS]) -> u64
+    ensures { result ≡ sum (weights_of consumers.now) }
 {
-    let mut total: u64 = 0;
-    let mut i = 0;
-    while i < CONSUMERS {
-        let x = consumers[i];
-        let declaration = x.declaration;
-        total += declared(declaration) as u64;
-        i += 1;
-    }
-    total
+    weights(consumers).iter().sum()
 }
 
-// What was read, 0 without a reading.
-fn real_of(reading: Reading) -> u32
-    ensures { result ≡ real_of reading }
-{
-    match reading {
-        Reading::Unread => 0,
-        Reading::Metered(dreal) => dreal,
-    }
-}
-
-// Real demand of a consumer, 0 if undeclared.
+// Real demand of a consumer: 0 without a reading, and of the undeclared.
 pub fn real_demand(x: Consumer) -> u32
     ensures { result ≡ real_demand x }
 {
-    let declaration = x.declaration;
-    let reading = x.reading;
-    match declaration {
+    match x.declaration {
         Declaration::Undeclared => 0,
-        Declaration::Declared(_) => real_of(reading),
+        Declaration::Declared(_) => x.reading.unwrap_or(0),
     }
 }
 
 // Real demand of each consumer.
-pub fn real_demands(consumers: [Consumer; CONSUMERS]) -> [u32; CONSUMERS]
-    ensures { result ≡ reals_of consumers }
+pub fn real_demands(consumers: &[Consumer; CONSUMERS]) -> [u32; CONSUMERS]
+    ensures { result ≡ reals_of consumers.now }
 {
-    let mut reals = [0u32; CONSUMERS];
-    let mut i = 0;
-    while i < CONSUMERS {
-        let x = consumers[i];
-        reals[i] = real_demand(x);
-        i += 1;
-    }
-    reals
+    consumers.map(real_demand)
 }
 
 // DFA by Dreal.
 fn adjusted_by(dmp: u32, total: u64, real: u32) -> u64
     ensures { result ≡ real * dmp / total }
 {
-    if total == 0 {
-        return 0;
-    }
-    real as u64 * dmp as u64 / total
+    let product = u64::from(real) * u64::from(dmp);
+    product.checked_div(total).unwrap_or(0)
 }
 
 // The greatest DFA, kW.
@@ -77,27 +50,15 @@ const GREATEST_DEMAND: u64 = GREATEST_POWER as u64;
 pub(crate) fn is_within(dmp: u32, total: u64, reals: &[u32]) -> bool
     ensures { result ≡ all_at_most greatest_power (map (λ real. real * dmp / total) reals.now) }
 {
-    let mut i = 0;
-    while i < reals.len() {
-        if GREATEST_DEMAND < adjusted_by(dmp, total, reals[i]) {
-            return false;
-        }
-        i += 1;
-    }
-    true
+    reals
+        .iter()
+        .all(|real| adjusted_by(dmp, total, *real) <= GREATEST_DEMAND)
 }
 
 // DFA of each consumer, once none is above the greatest.
-pub(crate) fn adjusted(dmp: u32, total: u64, consumers: [Consumer; CONSUMERS]) -> [u32; CONSUMERS]
-    requires { (total ≡ sum (weights_of consumers)) × (all_at_most greatest_power (adjusted_in dmp consumers) ≡ true) }
-    ensures { result ≡ adjusted_in dmp consumers }
+pub(crate) fn adjusted(dmp: u32, total: u64, consumers: &[Consumer; CONSUMERS]) -> [u32; CONSUMERS]
+    requires { (k : ℕ) → real_demand (get_or consumers.now k fresh_consumer) * dmp / total ≤ greatest_power }
+    ensures { result ≡ map (λ x. real_demand x * dmp / total) consumers.now }
 {
-    let mut adjusted = [0u32; CONSUMERS];
-    let mut i = 0;
-    while i < CONSUMERS {
-        let x = consumers[i];
-        adjusted[i] = adjusted_by(dmp, total, real_demand(x)) as u32;
-        i += 1;
-    }
-    adjusted
+    array::from_fn(|i| adjusted_by(dmp, total, real_demand(consumers[i])) as u32)
 }

@@ -2,96 +2,70 @@
 ghost use Rattle.std.specs.Prelude.{◌≡◌, true, ◌≤◌};
 ghost use Rattle.basis.specs.Sums.{all_at_most};
 ghost use Rattle.quantities.specs.Limits.{greatest_power, greatest_price};
-ghost use Rattle.close.specs.Close.{adjusted_in, figures_of, closed, close_number_from, close_of};
+ghost use Rattle.quantities.specs.Refusals.{met};
+ghost use Rattle.state.specs.State.{replied};
+ghost use Rattle.close.specs.Close.{adjusted_in, figures_of, close_number_from, close_number, close_of};
 
 use crate::adjusted::{adjusted, is_within, real_demands, total_declared};
-use crate::money::{charges, surpluses, total_of};
-use quantities::CONSUMERS;
-use ranges::call_number;
-use state::{Book, CloseFigures, Consumer, FIRM, Reply, Stage, stage_number};
+use crate::money::{charges, credits, surpluses};
+use quantities::{CONSUMERS, Refusal};
+use ranges::check_call;
+use state::{Book, CloseFigures, Consumer, Stage, check_stage};
 use table::Call;
 
 // The figures of a close at P, once no DFA is above the greatest.
-fn figures(p: u32, dmp: u32, consumers: [Consumer; CONSUMERS]) -> CloseFigures
-    requires { (p ≤ greatest_price) × (all_at_most greatest_power (adjusted_in dmp consumers) ≡ true) }
-    ensures { result ≡ figures_of p dmp consumers }
+fn figures(p: u32, dmp: u32, consumers: &[Consumer; CONSUMERS]) -> CloseFigures
+    requires { (p ≤ greatest_price) × (all_at_most greatest_power (adjusted_in dmp consumers.now) ≡ true) }
+    ensures { result ≡ figures_of p dmp consumers.now }
 {
-    let total = total_declared(consumers);
-    let adjusted = adjusted(dmp, total, consumers);
-    let charges = charges(p, adjusted, consumers);
-    let surpluses = surpluses(adjusted, consumers);
-    let charged = total_of(charges);
-    let mut credits = [0u64; CONSUMERS];
-    let _ = share::divide(charged, &surpluses, &mut credits);
-    let credited = total_of(credits);
-    let undistributed = charged - credited;
+    let adjusted = adjusted(dmp, total_declared(consumers), consumers);
+    let charges = charges(p, &adjusted, consumers);
+    let surpluses = surpluses(&adjusted, consumers);
+    let charged = charges.iter().sum();
+    let credits = credits(charged, &surpluses);
+    let credited = credits.iter().sum();
     CloseFigures {
         adjusted,
         charges,
         credits,
         charged,
         credited,
-        undistributed,
+        undistributed: charged - credited,
     }
 }
 
-// The closed book.
-fn closed(book: Book, p: u32) -> Book
-    requires { (p ≤ greatest_price) × (all_at_most greatest_power (adjusted_in book.dmp book.consumers) ≡ true) }
-    ensures { result ≡ closed book p }
-{
-    let hours = book.hours;
-    let units = book.units;
-    let consumers = book.consumers;
-    let balances = book.balances;
-    let offers = book.offers;
-    let efficient = book.efficient;
-    let limits = book.limits;
-    let closing = figures(p, book.dmp, consumers);
-    Book {
-        stage: Stage::Closed,
-        hours,
-        units,
-        consumers,
-        balances,
-        dmp: book.dmp,
-        offers,
-        efficient,
-        limits,
-        closing,
-    }
-}
-
-// The number of a close, from ΣD and the real demand of each consumer: 3, 4, 14, or 0. Nothing is changed.
+// What a close meets, from ΣD and the real demand of each consumer: 3, 4, 14, or nothing. Nothing is changed.
 #[tactic(auto, unfolding(crate::specs::Close::close_number_from))]
-pub fn close_number(stage: Stage, dmp: u32, total: u64, reals: &[u32], p: u32) -> u32
-    ensures { result ≡ close_number_from stage dmp total reals.now p }
+pub fn check_close(stage: Stage, dmp: u32, total: u64, reals: &[u32], p: u32) -> Result<(), Refusal>
+    ensures { met result ≡ close_number_from stage dmp total reals.now p }
 {
-    let number = call_number(Call::Close { p }, b"");
-    if number != 0 {
-        return number;
-    }
-    if stage_number(stage) != FIRM {
-        return 4;
-    }
+    check_call(Call::Close { p }, b"")?;
+    check_stage(stage, Stage::Firm)?;
     if is_within(dmp, total, reals) {
-        return 0;
+        Ok(())
+    } else {
+        Err(Refusal::AboveGreatestPower)
     }
-    14
+}
+
+// The same, of the book as it stands.
+fn check_book(book: &Book, p: u32) -> Result<(), Refusal>
+    ensures { met result ≡ close_number book.now p }
+{
+    let total = total_declared(&book.consumers);
+    let reals = real_demands(&book.consumers);
+    check_close(book.stage, book.dmp, total, &reals, p)
 }
 
 // The close at P cents per kW-month.
-pub fn close(book: Book, p: u32) -> Reply
-    ensures { result ≡ close_of book p }
+#[tactic(auto, unfolding(crate::specs::Close::closed, crate::specs::Close::close_of))]
+pub fn close(book: Book, p: u32) -> Result<Book, Refusal>
+    ensures { replied book result ≡ close_of book p }
 {
-    let stage = book.stage;
-    let consumers = book.consumers;
-    let total = total_declared(consumers);
-    let reals = real_demands(consumers);
-    let number = close_number(stage, book.dmp, total, &reals, p);
-    if number != 0 {
-        return Reply { number, book };
-    }
-    let book = closed(book, p);
-    Reply { number: 0, book }
+    check_book(&book, p)?;
+    Ok(Book {
+        stage: Stage::Closed,
+        closing: figures(p, book.dmp, &book.consumers),
+        ..book
+    })
 }

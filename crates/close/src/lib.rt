@@ -3,7 +3,7 @@
 
 mod adjusted; // adjusted.rt: adjusted demand, and number 14
 mod closing; // closing.rt: the close
-mod money; // money.rt: positive adjustments, charges and their sums
+mod money; // money.rt: positive adjustments, charges and credits
 
 pub use adjusted::{real_demand, real_demands, total_declared};
-pub use closing::{close, close_number};
+pub use closing::{check_close, close};

@@ -22,26 +22,24 @@ use Rattle.state.specs.declared.kept.Stage.TheVariants.{Firm}
 use Rattle.state.specs.declared.kept.Consumer.{Consumer}
 use Rattle.state.specs.declared.kept.Declaration.{Declaration}
 use Rattle.state.specs.declared.kept.Book.{Book}
-use Rattle.state.specs.declared.kept.Reply.{Reply}
+use Rattle.state.specs.State.{Reply}
 use Rattle.state.specs.State.{fresh_consumer, cells, cell_of, row_of, with_consumers, with_balances, ranged, staged}
-use Rattle.decision.specs.declared.consumers.ConsumerAnswer.{ConsumerAnswer}
-use Rattle.decision.specs.declared.consumers.ConsumerAnswer.TheVariants as consumer-answer
-use Rattle.decision.specs.declared.contracts.BalanceAnswer.{BalanceAnswer}
-use Rattle.decision.specs.declared.contracts.BalanceAnswer.TheVariants as balance-answer
+use Rattle.quantities.specs.Refusals.{Decided, Refused, Stored, decided_by}
+use Rattle.decision.specs.declared.contracts.Balance.{Balance}
 use Rattle.state.specs.Places.{place_of}
 use Rattle.decision.specs.Consumers.{known, consumer_rest, consumer_after, consumer_number, after_consumer, consumer_of, consumer_answer_of}
-use Rattle.decision.specs.ContractCalls.{contract_rest, balance_after, contract_number, after_contract, contract_of, balance_answered, contract_answer_of}
+use Rattle.decision.specs.ContractCalls.{contract_rest, balance_after, contract_number, after_contract, contract_of, balance_at, contract_answer_of}
 use Rattle.state.proofs.Placed.{own_place}
 use Rattle.state.proofs.Replies.{reply, by_number, replies_agree, ranges_alone}
 
 -- an answer is stored
-abbrev pub settled_consumer : Book → ℕ → ConsumerAnswer → Reply
-settled_consumer b place (consumer-answer.Refused number) = reply number b
-settled_consumer b place (consumer-answer.Stored x) = reply 0 (with_consumers b (set b.consumers place x))
+abbrev pub settled_consumer : Book → ℕ → Decided Consumer → Reply
+settled_consumer b place (Refused number) = reply number b
+settled_consumer b place (Stored x) = reply 0 (with_consumers b (set b.consumers place x))
 
-abbrev pub settled_balance : Book → BalanceAnswer → Reply
-settled_balance b (balance-answer.Refused number) = reply number b
-settled_balance b (balance-answer.Stored cell balance) = reply 0 (with_balances b (set b.balances cell balance))
+abbrev pub settled_balance : Book → Decided Balance → Reply
+settled_balance b (Refused number) = reply number b
+settled_balance b (Stored x) = reply 0 (with_balances b (set b.balances x.cell x.balance))
 
 module _ (b : Book) (consumer : ℕ) (act : ConsumerCall) (place : ℕ) (e : place ≡ place_of consumers consumer) where
   consumer_here : call_number (call.Consumer consumer act) [] ≡ 0 → place ≡ consumer - 1
@@ -54,7 +52,7 @@ module _ (b : Book) (consumer : ℕ) (act : ConsumerCall) (place : ℕ) (e : pla
       let left : ℕ → ℕ = λ p. consumer_rest act b.stage (at p) in
       let new : ℕ → Book = λ p. with_consumers b (set b.consumers p (consumer_after act (at p))) in
       let n : ℕ = ranged (call.Consumer consumer act) [] (left place) in
-      by_number (settled_consumer b place) (consumer-answer.Stored (consumer_after act (at place))) consumer-answer.Refused b (new place) n refl (λ m. refl)
+      by_number (settled_consumer b place) (Stored (consumer_after act (at place))) Refused b (new place) n refl (λ m. refl)
       ∙ replies_agree n (ranged (call.Consumer consumer act) [] (left (consumer - 1))) b (new place) (new (consumer - 1))
       (ranges_alone (call.Consumer consumer act) [] (left place) (left (consumer - 1)) (λ z. ap left (consumer_here z)))
       (λ z. ap new (consumer_here (handed_on (call_number (call.Consumer consumer act) []) (left place) z).0))
@@ -72,23 +70,23 @@ module _ (b : Book) (producer consumer : ℕ) (act : ContractCall) (place : ℕ)
       let left : ℕ → ℕ = λ p. staged Firm b.stage (known (get_or b.consumers p fresh_consumer).declaration rest) in
       let new : Book = with_balances b (set b.balances cell (balance_after act balance)) in
       let n : ℕ = ranged (call.Contract producer consumer act) [] (left place) in
-      by_number (settled_balance b) (balance-answer.Stored cell (balance_after act balance)) balance-answer.Refused b new n refl (λ m. refl)
+      by_number (settled_balance b) (Stored (balance_at cell (balance_after act balance))) Refused b new n refl (λ m. refl)
       ∙ replies_agree n (ranged (call.Contract producer consumer act) [] (left (consumer - 1))) b new new
       (ranges_alone (call.Contract producer consumer act) [] (left place) (left (consumer - 1)) (λ z. ap left (consumer_of_contract z)))
       (λ z. refl)
 
 -- an answer that stores has no number
-no_number : (n cell balance here v : ℕ) → balance_answered n cell balance ≡ balance-answer.Stored here v → (n ≡ 0) × (cell ≡ here)
-no_number n cell balance here v e = go (eqb n 0) refl e
+no_number : (n : ℕ) (x y : Balance) → decided_by n x ≡ Stored y → (n ≡ 0) × (x ≡ y)
+no_number n x y e = go (eqb n 0) refl e
   where
-    go : (t : Bool) → eqb n 0 ≡ t → pick t (balance-answer.Stored cell balance) (balance-answer.Refused n) ≡ balance-answer.Stored here v → (n ≡ 0) × (cell ≡ here)
+    go : (t : Bool) → eqb n 0 ≡ t → pick t (Stored x) (Refused n) ≡ Stored y → (n ≡ 0) × (x ≡ y)
     go true q h = (eqb-true n 0 q, cc h)
     go false q h = let z : ◌≡◌ {A = ℕ} 0 1 = cc in absurd (omega arith)
 
 -- a balance is stored at a cell of the book
-pub cell_within : (producer consumer : ℕ) (act : ContractCall) (stage : Stage) (d : Declaration) (balances limits : List ℕ) (cell balance : ℕ) → contract_answer_of producer consumer act stage d balances limits ≡ balance-answer.Stored cell balance → cell < cells
+pub cell_within : (producer consumer : ℕ) (act : ContractCall) (stage : Stage) (d : Declaration) (balances limits : List ℕ) (x : Balance) → contract_answer_of producer consumer act stage d balances limits ≡ Stored x → x.cell < cells
 unfolding contract_answer_of contract_number
-cell_within producer consumer act stage d balances limits cell balance e =
-    let k = no_number _ (cell_of producer consumer) _ cell balance e in
+cell_within producer consumer act stage d balances limits x e =
+    let k = no_number _ (balance_at (cell_of producer consumer) _) x e in
     let r = contract_numbered producer consumer act [] (handed_on (call_number (call.Contract producer consumer act) []) _ k.0).0 in
-    omega (arith, k.1, r.producer.most, r.consumer.least, r.consumer.most)
+    omega (arith, ap (λ (y : Balance). y.cell) k.1, r.producer.most, r.consumer.least, r.consumer.most)

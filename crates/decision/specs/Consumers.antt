@@ -1,5 +1,5 @@
 -- The calls of a consumer: declare, meter ("A later accepted .. declaration or reading replaces the earlier.").
-use Rattle.std.specs.Prelude.{Bool, true, false, [], ℕ, ◌-◌, eqb, set}
+use Rattle.std.specs.Prelude.{Bool, true, false, [], ℕ, ◌-◌, eqb, set, Some}
 use Rattle.basis.specs.Choice.{pick}
 use Rattle.table.specs.declared.calls.Call.TheVariants as call
 use Rattle.table.specs.declared.consumers.ConsumerCall.{ConsumerCall}
@@ -8,12 +8,10 @@ use Rattle.state.specs.declared.kept.Stage.{Stage}
 use Rattle.state.specs.declared.kept.Stage.TheVariants.{Gathering, Firm}
 use Rattle.state.specs.declared.kept.Declaration.{Declaration}
 use Rattle.state.specs.declared.kept.Declaration.TheVariants.{Undeclared, Declared}
-use Rattle.state.specs.declared.kept.Reading.TheVariants.{Metered}
 use Rattle.state.specs.declared.kept.Consumer.{Consumer}
 use Rattle.state.specs.declared.kept.Book.{Book}
-use Rattle.state.specs.declared.kept.Reply.{Reply}
-use Rattle.decision.specs.declared.consumers.ConsumerAnswer.{ConsumerAnswer}
-use Rattle.decision.specs.declared.consumers.ConsumerAnswer.TheVariants.{Refused, Stored}
+use Rattle.state.specs.State.{Reply}
+use Rattle.quantities.specs.Refusals.{Decided, decided_by}
 use Rattle.state.specs.State.{consumer_at, with_consumers, ranged, staged, reply_of}
 
 -- number 10: consumer not declared
@@ -34,7 +32,7 @@ abbrev pub declaring : Consumer → ℕ → ℕ → Consumer
 declaring x d a = record { declaration = Declared (record { d = d; a = a; df = 0 }); reading = x.reading }
 
 abbrev pub metering : Consumer → ℕ → Consumer
-metering x dreal = record { declaration = x.declaration; reading = Metered dreal }
+metering x dreal = record { declaration = x.declaration; reading = Some dreal }
 
 -- the consumer after a call
 unfoldable pub consumer_after : ConsumerCall → Consumer → Consumer
@@ -54,11 +52,7 @@ unfoldable pub consumer_of : Book → ℕ → ConsumerCall → Reply
 consumer_of b consumer act =
     reply_of (consumer_number consumer act b.stage (consumer_at b.consumers consumer)) b (after_consumer b consumer act)
 
--- a number refuses; without one the consumer is stored
-abbrev pub consumer_answered : ℕ → Consumer → ConsumerAnswer
-consumer_answered number x = pick (eqb number 0) (Stored x) (Refused number)
-
 -- what a call comes to for its consumer
-unfoldable pub consumer_answer_of : ℕ → ConsumerCall → Stage → Consumer → ConsumerAnswer
+unfoldable pub consumer_answer_of : ℕ → ConsumerCall → Stage → Consumer → Decided Consumer
 consumer_answer_of consumer act stage x =
-    consumer_answered (consumer_number consumer act stage x) (consumer_after act x)
+    decided_by (consumer_number consumer act stage x) (consumer_after act x)

@@ -10,10 +10,10 @@ use Rattle.state.specs.declared.kept.Stage.{Stage}
 use Rattle.state.specs.declared.kept.Stage.TheVariants.{Firm}
 use Rattle.state.specs.declared.kept.Declaration.{Declaration}
 use Rattle.state.specs.declared.kept.Book.{Book}
-use Rattle.state.specs.declared.kept.Reply.{Reply}
+use Rattle.state.specs.State.{Reply}
 use Rattle.decision.specs.Consumers.{known}
-use Rattle.decision.specs.declared.contracts.BalanceAnswer.{BalanceAnswer}
-use Rattle.decision.specs.declared.contracts.BalanceAnswer.TheVariants.{Refused, Stored}
+use Rattle.decision.specs.declared.contracts.Balance.{Balance}
+use Rattle.quantities.specs.Refusals.{Decided, decided_by}
 use Rattle.state.specs.State.{consumer_at, cell_of, row_of, with_balances, ranged, staged, reply_of}
 
 -- the sum of a producer's balances, 0 where there is no such producer
@@ -56,12 +56,12 @@ contract_of b producer consumer act =
     reply_of (contract_number producer consumer act b.stage (consumer_at b.consumers consumer).declaration b.balances b.limits) b
     (after_contract b producer consumer act)
 
--- a number refuses; without one the balance is stored at a cell
-abbrev pub balance_answered : ℕ → ℕ → ℕ → BalanceAnswer
-balance_answered number cell balance = pick (eqb number 0) (Stored cell balance) (Refused number)
+-- a balance at a cell
+abbrev pub balance_at : ℕ → ℕ → Balance
+balance_at cell balance = record { cell = cell; balance = balance }
 
 -- what a call comes to for its contract
-unfoldable pub contract_answer_of : ℕ → ℕ → ContractCall → Stage → Declaration → List ℕ → List ℕ → BalanceAnswer
+unfoldable pub contract_answer_of : ℕ → ℕ → ContractCall → Stage → Declaration → List ℕ → List ℕ → Decided Balance
 contract_answer_of producer consumer act stage declaration balances limits =
-    balance_answered (contract_number producer consumer act stage declaration balances limits) (cell_of producer consumer)
-    (balance_after act (get_or balances (cell_of producer consumer) 0))
+    decided_by (contract_number producer consumer act stage declaration balances limits)
+    (balance_at (cell_of producer consumer) (balance_after act (get_or balances (cell_of producer consumer) 0)))

@@ -1,41 +1,37 @@
 // What a call of a contract comes to.
-ghost use Rattle.std.specs.Prelude.{◌≡◌, ◌+◌, ◌-◌, ◌*◌, ◌≤◌, take, drop};
+ghost use Rattle.std.specs.Prelude.{◌≡◌, ◌+◌, ◌-◌, ◌≤◌, length, take, drop};
 ghost use Rattle.basis.specs.Sums.{sum};
 ghost use Rattle.quantities.specs.Limits.{consumers};
-ghost use Rattle.state.specs.State.{cells, greatest_cell};
-ghost use Rattle.decision.specs.Consumers.{is_declared};
-ghost use Rattle.decision.specs.ContractCalls.{producer_balance, commit_rest, release_rest, balance_answered, contract_answer_of};
+ghost use Rattle.quantities.specs.Refusals.{decided, decided_by};
+ghost use Rattle.state.specs.State.{cells};
+ghost use Rattle.decision.specs.ContractCalls.{producer_balance, commit_rest, release_rest, contract_answer_of};
 
-use quantities::{CONSUMERS, PRODUCERS};
-use state::{CELLS, Declaration, FIRM, Stage, stage_number};
-use table::{ContractCall, contract_number};
+use crate::consumers::check_declared;
+use quantities::{CONSUMERS, PRODUCERS, Refusal};
+use state::{CELLS, Declaration, Stage, check_stage};
+use table::{Call, ContractCall, check_fields};
 
-// A refusal with its number, or the balance that is to be stored, and its cell.
+// The balance that is to be stored, and its cell.
 #[derive(Clone, Copy)]
-pub enum BalanceAnswer {
-    Refused(u32),
-    Stored { cell: usize, balance: u32 },
+pub struct Balance {
+    pub cell: usize,
+    pub balance: u32,
 }
 
-// A balance as a term of a sum.
-fn wide(x: u32) -> u64
-    ensures { (result ≡ x) × (result ≤ greatest_cell) }
+// The sum of so many balances.
+fn sum_of(balances: &[u32]) -> u64
+    requires { length balances.now ≤ consumers }
+    ensures { result ≡ sum balances.now }
 {
-    x as u64
+    balances.iter().map(|balance| u64::from(*balance)).sum()
 }
 
 // The sum of the balances of a row.
 fn row_sum(balances: &[u32; CELLS], from: usize) -> u64
     requires { from + consumers ≤ cells }
-    ensures { (result ≡ sum (take consumers (drop from balances.now))) × (result ≤ consumers * greatest_cell) }
+    ensures { result ≡ sum (take consumers (drop from balances.now)) }
 {
-    let mut sum: u64 = 0;
-    let mut i = 0;
-    while i < CONSUMERS {
-        sum += wide(balances[from + i]);
-        i += 1;
-    }
-    sum
+    sum_of(&balances[from..from + CONSUMERS])
 }
 
 // The sum of a producer's balances, 0 where there is no such producer.
@@ -43,83 +39,59 @@ pub fn producer_balance(balances: &[u32; CELLS], producer: u32) -> u64
     ensures { result ≡ producer_balance balances.now producer }
 {
     let n = producer as usize;
-    if n < 1 {
-        return 0;
-    }
-    if PRODUCERS < n {
+    if n < 1 || PRODUCERS < n {
         return 0;
     }
     row_sum(balances, (n - 1) * CONSUMERS)
 }
 
-// Whether a consumer declared.
-fn is_declared(declaration: Declaration) -> bool
-    ensures { result ≡ is_declared declaration }
-{
-    match declaration {
-        Declaration::Undeclared => false,
-        Declaration::Declared(_) => true,
-    }
-}
-
 // A contract: 11, or the pair's balance with the amount on top.
-fn commit_answer(cell: usize, limit: u32, total: u64, balance: u32, q: u32) -> BalanceAnswer
-    requires { (balance ≤ total) × (total ≤ consumers * greatest_cell) }
-    ensures { result ≡ balance_answered (commit_rest limit total q) cell (balance + q) }
+fn committed(limit: u32, total: u64, balance: u32, q: u32) -> Result<u32, Refusal>
+    requires { balance ≤ total }
+    ensures { decided result ≡ decided_by (commit_rest limit total q) (balance + q) }
 {
-    if wide(limit) < total + wide(q) {
-        return BalanceAnswer::Refused(11);
-    }
-    BalanceAnswer::Stored {
-        cell,
-        balance: balance + q,
+    match u64::from(limit).checked_sub(total) {
+        Some(free) if u64::from(q) <= free => Ok(balance + q),
+        _ => Err(Refusal::AboveOffers),
     }
 }
 
 // A release: 12, or the pair's balance less the amount.
-fn release_answer(cell: usize, balance: u32, q: u32) -> BalanceAnswer
-    ensures { result ≡ balance_answered (release_rest balance q) cell (balance - q) }
+fn released(balance: u32, q: u32) -> Result<u32, Refusal>
+    ensures { decided result ≡ decided_by (release_rest balance q) (balance - q) }
 {
-    if balance < q {
-        return BalanceAnswer::Refused(12);
-    }
-    BalanceAnswer::Stored {
-        cell,
-        balance: balance - q,
-    }
+    balance.checked_sub(q).ok_or(Refusal::AboveBalance)
 }
 
-// A call of a contract, decided from the stage, the consumer's declaration, the balances and what producers may commit.
-pub fn contract_answer<'a>(
+// A call of a contract, decided from the stage, the consumer's declaration, the balances and what producers may commit: a refusal, or the
+// balance that is to be stored.
+#[tactic(auto, unfolding(table::specs::Ranges::call_number, table::specs::Ranges::rest_in_range, crate::specs::ContractCalls::contract_answer_of, crate::specs::ContractCalls::contract_number, crate::specs::ContractCalls::contract_rest, crate::specs::ContractCalls::balance_after))]
+pub fn contract_answer(
     producer: u32,
     consumer: u32,
     act: ContractCall,
     stage: Stage,
     declaration: Declaration,
-    balances: &'a [u32; CELLS],
-    limits: &'a [u32; PRODUCERS],
-) -> BalanceAnswer
-    ensures { result ≡ contract_answer_of producer consumer act stage declaration balances.now limits.now }
+    balances: &[u32; CELLS],
+    limits: &[u32; PRODUCERS],
+) -> Result<Balance, Refusal>
+    ensures { decided result ≡ contract_answer_of producer consumer act stage declaration balances.now limits.now }
 {
-    let number = contract_number(producer, consumer, act);
-    if number != 0 {
-        return BalanceAnswer::Refused(number);
-    }
-    if stage_number(stage) != FIRM {
-        return BalanceAnswer::Refused(4);
-    }
-    let column = (consumer - 1) as usize;
-    if !is_declared(declaration) {
-        return BalanceAnswer::Refused(10);
-    }
+    check_fields(Call::Contract {
+        producer,
+        consumer,
+        act,
+    })?;
+    check_stage(stage, Stage::Firm)?;
+    check_declared(declaration)?;
     let row = (producer - 1) as usize;
     let from = row * CONSUMERS;
-    let cell = from + column;
-    let balance = balances[cell];
-    match act {
+    let cell = from + (consumer - 1) as usize;
+    let balance = match act {
         ContractCall::Commit { q } => {
-            commit_answer(cell, limits[row], row_sum(balances, from), balance, q)
+            committed(limits[row], row_sum(balances, from), balances[cell], q)?
         }
-        ContractCall::Release { q } => release_answer(cell, balance, q),
-    }
+        ContractCall::Release { q } => released(balances[cell], q)?,
+    };
+    Ok(Balance { cell, balance })
 }

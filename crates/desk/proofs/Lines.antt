@@ -12,7 +12,7 @@ use Rattle.record.specs.declared.reading.Read.{Read}
 use Rattle.record.specs.declared.reading.Read.TheVariants.{End, Cut, Unknown, Record}
 use Rattle.record.specs.Reading.{read_at, stop_number, part_of}
 use Rattle.state.specs.declared.kept.Book.{Book}
-use Rattle.state.specs.declared.kept.Reply.{Reply}
+use Rattle.state.specs.State.{Reply}
 use Rattle.book.specs.Step.{step_of}
 use Rattle.text.specs.Text.{Puts}
 use Rattle.text.proofs.Putting.{puts_none, puts_within, puts_as}

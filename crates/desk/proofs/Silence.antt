@@ -1,4 +1,5 @@
--- Nothing is found exactly where the whole input was read and nothing was refused.
+-- None is found exactly where the whole input was read and nothing was refused.
+use Rattle.std.specs.Prelude.{Option, None, Some}
 use mathlib.Core.Path.{◌≡◌, refl}
 use mathlib.Core.Bool.{Bool, true, false}
 use mathlib.Core.List.{List, [], ◌∷◌, ◌++◌}
@@ -8,8 +9,7 @@ use borrow.Author.Tests.{eqb-true, ltb-false, le-ltb}
 use lib.Dec.{eqb, ltb}
 use lib.ListN.{length}
 use Rattle.basis.specs.Choice.{pick}
-use Rattle.journal.specs.declared.outcome.FirstRefused.{FirstRefused}
-use Rattle.journal.specs.declared.outcome.FirstRefused.TheVariants.{Nothing, At}
+use Rattle.journal.specs.declared.outcome.Refused.{Refused}
 use Rattle.journal.specs.Run.{run_of}
 use Rattle.journal.proofs.Refusals.{naming}
 use Rattle.listing.specs.Listing.{most_input}
@@ -23,10 +23,10 @@ pub begun : {A : Type 0} {b : ℕ} {l : List ℕ} → b ∷ l ≡ [] → A
 begun e = let z : ◌≡◌ {A = ℕ} 0 1 = cc in absurd (omega arith)
 
 -- nothing is said of refusals only where none is named, and of a stop only where there is none
-no_refusals : (f : FirstRefused) (refused read : ℕ) → refusals f refused read ≡ [] → f ≡ Nothing
+no_refusals : (f : Option Refused) (refused read : ℕ) → refusals f refused read ≡ [] → f ≡ None
 unfolding refusals bytes
-no_refusals Nothing refused read e = refl
-no_refusals (At place number) refused read e = begun e
+no_refusals None refused read e = refl
+no_refusals (Some first) refused read e = begun e
 
 no_stop : (stop place : ℕ) → stopping stop place ≡ [] → stop ≡ 0
 unfolding stopping bytes
@@ -56,12 +56,12 @@ module _ (input : List ℕ) where
   parts e = both_empty _ _ (found e).1
 
   -- none is named where none was refused
-  unnamed : (run_of input).refused ≡ 0 → (run_of input).first ≡ Nothing
+  unnamed : (run_of input).refused ≡ 0 → (run_of input).first ≡ None
   unnamed z = go (run_of input).first refl
     where
-      go : (f : FirstRefused) → (run_of input).first ≡ f → f ≡ Nothing
-      go Nothing e = refl
-      go (At place number) e = absurd (omega (arith, (naming input).some place number e))
+      go : (f : Option Refused) → (run_of input).first ≡ f → f ≡ None
+      go None e = refl
+      go (Some first) e = absurd (omega (arith, (naming input).some first.place first.number e))
 
   all_well : length input ≤ most_input → (run_of input).stop ≡ 0 → (run_of input).refused ≡ 0 → findings_for input ≡ []
   unfolding findings_for findings_of refusals stopping

@@ -1,7 +1,6 @@
 -- The printed close of a journal, and what is said of it on standard error.
-use Rattle.std.specs.Prelude.{List, [], ◌++◌, ℕ, eqb, ltb, length}
+use Rattle.std.specs.Prelude.{List, [], ◌++◌, ℕ, codes, eqb, ltb, length}
 use Rattle.basis.specs.Choice.{pick}
-use Rattle.text.specs.Text.{bytes}
 use Rattle.state.specs.declared.kept.Stage.TheVariants.{Closed}
 use Rattle.state.specs.declared.kept.Book.{Book}
 use Rattle.state.specs.State.{staged}
@@ -21,7 +20,7 @@ page_of b = pick (eqb (open_number b) 0) (text_of b) []
 
 -- why there is no page
 unfoldable pub unclosed : ℕ → List ℕ
-unclosed number = pick (eqb number 0) [] (bytes "yearbook: no page, the year is not closed: " ++ said number)
+unclosed number = pick (eqb number 0) [] (codes "yearbook: no page, the year is not closed: " ++ said number)
 
 -- what the program prints of an input under the word `page`, and what it says
 unfoldable pub page_for : List ℕ → List ℕ

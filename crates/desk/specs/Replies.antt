@@ -1,5 +1,5 @@
 -- The replies to a journal's records, a line for each, and a last line that says where and why the reading stopped.
-use Rattle.std.specs.Prelude.{Bool, true, false, ◌≡◌, List, [], ◌∷◌, ◌++◌, ℕ, zero, suc, ◌+◌, ◌*◌, ◌≤◌, ◌<◌, eqb, ltb, length}
+use Rattle.std.specs.Prelude.{Bool, true, false, ◌≡◌, List, [], ◌∷◌, ◌++◌, ℕ, zero, suc, ◌<◌, codes, eqb, ltb, length, Option, None, Some}
 use Rattle.basis.specs.Choice.{pick}
 use Rattle.table.specs.declared.calls.Call.{Call}
 use Rattle.record.specs.declared.reading.Read.TheVariants.{End, Cut, Unknown, Record}
@@ -7,22 +7,21 @@ use Rattle.record.specs.Reading.{read_at, stop_number, part_of}
 use Rattle.state.specs.declared.kept.Book.{Book}
 use Rattle.state.specs.State.{fresh_book}
 use Rattle.book.specs.Step.{step_of}
-use Rattle.text.specs.Text.{Puts, decimal, line_most, bytes}
+use Rattle.text.specs.Text.{decimal}
 use Rattle.listing.specs.Listing.{most_input}
 use Rattle.desk.specs.declared.replies.Rest.{Rest}
-use Rattle.desk.specs.declared.replies.Told.{Told}
-use Rattle.words.specs.Numbers.{said, said_most}
-use Rattle.words.specs.Calls.{call_text, call_most}
+use Rattle.words.specs.Numbers.{said}
+use Rattle.words.specs.Calls.{call_text}
 
 -- place, call, number and meaning
 unfoldable pub reply_line : ℕ → Call → List ℕ → ℕ → List ℕ
 reply_line place c readings number =
-    decimal place ++ (32 ∷ (call_text c readings ++ (bytes ": " ++ said number)))
+    decimal place ++ (32 ∷ (call_text c readings ++ (codes ": " ++ said number)))
 
 -- where the reading stopped, and why: at the journal's end, or at a record with number 1 or 2
 unfoldable pub end_line : ℕ → ℕ → List ℕ
 end_line place stop =
-    decimal place ++ pick (eqb stop 0) (bytes " end of journal\n") (bytes " stop: " ++ said stop)
+    decimal place ++ pick (eqb stop 0) (codes " end of journal\n") (codes " stop: " ++ said stop)
 
 -- the line of what stands at a place, with the book that the calls before it have made
 unfoldable pub line_at : List ℕ → Book → ℕ → List ℕ
@@ -86,13 +85,14 @@ rest_of s rest = lines_from rest.left s rest.book rest.place
 unfoldable pub next_line : List ℕ → Rest → List ℕ
 next_line s rest = pick (eqb rest.left 0) [] (line_at s rest.book rest.place)
 
--- the most bytes of a line
-abbrev pub reply_most : ℕ
-reply_most = call_most + (3 * line_most + said_most)
+-- a line, if there is one
+abbrev pub line_told : Option (List ℕ) → List ℕ
+line_told None = []
+line_told (Some line) = line
 
--- what putting a line answers and leaves in the buffer: the line and the rest behind it are what was to be told, and less is left
-pub record Tells (s : List ℕ) (rest : Rest) (old : List ℕ) (r : Told) (new : List ℕ) : Type 0 where
-  pub line : Puts reply_most (next_line s rest) old 0 r.size new
-  pub whole : rest_of s rest ≡ next_line s rest ++ rest_of s r.rest
-  pub fewer : 0 < rest.left → r.rest.left < rest.left
-  pub fits : r.size ≤ length new
+-- what telling a line answers and leaves: the line and the rest behind it are what was to be told, and less is left
+pub record Tells (s : List ℕ) (rest : Rest) (told : Option (List ℕ)) (behind : Rest) : Type 0 where
+  pub line : line_told told ≡ next_line s rest
+  pub whole : rest_of s rest ≡ next_line s rest ++ rest_of s behind
+  pub none : rest.left ≡ 0 → told ≡ None
+  pub fewer : 0 < rest.left → behind.left < rest.left

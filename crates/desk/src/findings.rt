@@ -1,107 +1,99 @@
 // What is wrong with a journal, in words.
-ghost use Rattle.std.specs.Prelude.{◌+◌, ◌≤◌, ◌<◌, length};
-ghost use Rattle.text.specs.Text.{Puts};
-ghost use Rattle.listing.specs.Listing.{most_input, too_long, output_of};
-ghost use Rattle.desk.specs.Findings.{refusals, refusals_most, stopping, stopping_most, findings_of, found_most, nothing_read, findings_for, Finds};
+ghost use Rattle.std.specs.Prelude.{◌≡◌};
+ghost use Rattle.listing.specs.Listing.{too_long, output_of};
+ghost use Rattle.desk.specs.Findings.{refusals, stopping, findings_of, nothing_read, findings_for};
 
-use journal::{FirstRefused, Run, run};
-use listing::{LONGEST, MOST_INPUT, put_listing, put_output};
-use text::{LONGEST_LINE, put_text};
-use words::{put_at_place, put_figure};
+use journal::{Run, run};
+use listing::{LONGEST, MOST_INPUT, listing};
+use text::{LONGEST_DECIMAL, Text, decimal};
+use words::{LONGEST_AT_PLACE, LONGEST_SAID, at_place};
 
-// The most bytes of the findings: three lines, of twenty parts in all, each at most as long as a line of the listing.
-pub const LONGEST_FINDINGS: usize = 20 * LONGEST_LINE;
+// The most bytes of what is said of refusals, of a stop, and of both.
+const LONGEST_REFUSALS: usize = 69 + 2 * LONGEST_DECIMAL + LONGEST_AT_PLACE;
 
-// The bytes of an input's output and of the findings.
-#[derive(Clone, Copy)]
-pub struct Sizes {
-    pub output: usize,
-    pub findings: usize,
+const LONGEST_STOPPING: usize = 34 + LONGEST_AT_PLACE;
+
+pub(crate) const LONGEST_FOUND: usize = LONGEST_REFUSALS + LONGEST_STOPPING;
+
+// .. of the line that says why there is no page, and of all findings.
+pub(crate) const LONGEST_UNCLOSED: usize = 43 + LONGEST_SAID;
+
+pub const LONGEST_FINDINGS: usize = LONGEST_FOUND + LONGEST_UNCLOSED;
+
+// What the program prints of an input, and what it finds wrong with it.
+#[derive(Drop)]
+pub struct Told {
+    pub output: Text<LONGEST>,
+    pub findings: Text<LONGEST_FINDINGS>,
 }
 
 // How many of the records read were refused, with place and number of the first.
-fn put_refusals(
-    out: &mut [u8],
-    at: usize,
-    first: FirstRefused,
-    refused: usize,
-    read: usize,
-) -> usize
-    requires { at + refusals_most ≤ length out.old }
-    ensures { Puts refusals_most (refusals first refused read) out.old at result out.new }
+#[tactic(auto, unfolding(crate::specs::Findings::refusals))]
+fn refusals(run: &Run) -> Text<LONGEST_REFUSALS>
+    ensures { result ≡ refusals run.now.first run.now.refused run.now.read }
 {
-    match first {
-        FirstRefused::Nothing => at,
-        FirstRefused::At { place, number } => {
-            let count = put_text(out, at, b"yearbook: ");
-            let of = put_figure(out, count, refused as u64);
-            let records = put_text(out, of, b" of ");
-            let words = put_figure(out, records, read as u64);
-            let byte = put_text(out, words, b" records refused, the first at byte ");
-            put_at_place(out, byte, place, number)
-        }
+    let mut line = Text::new();
+    if let Some(first) = run.first {
+        line.push_str("yearbook: ");
+        line.push_text(&decimal(run.refused as u64));
+        line.push_str(" of ");
+        line.push_text(&decimal(run.read as u64));
+        line.push_str(" records refused, the first at byte ");
+        line.push_text(&at_place(first.place, first.number));
     }
+    line
 }
 
 // Where and why the reading stopped before the journal's end.
-fn put_stopping(out: &mut [u8], at: usize, stop: u32, place: usize) -> usize
-    requires { at + stopping_most ≤ length out.old }
-    ensures { Puts stopping_most (stopping stop place) out.old at result out.new }
+#[tactic(auto, unfolding(crate::specs::Findings::stopping))]
+fn stopping(run: &Run) -> Text<LONGEST_STOPPING>
+    ensures { result ≡ stopping run.now.stop run.now.place }
 {
-    if stop == 0 {
-        return at;
+    let mut line = Text::new();
+    if run.stop != 0 {
+        line.push_str("yearbook: reading stopped at byte ");
+        line.push_text(&at_place(run.place, run.stop));
     }
-    let byte = put_text(out, at, b"yearbook: reading stopped at byte ");
-    put_at_place(out, byte, place, stop)
+    line
 }
 
 // What is found wrong with a journal's run.
-pub(crate) fn put_found(out: &mut [u8], run: Run) -> usize
-    requires { found_most ≤ length out.old }
-    ensures { Puts found_most (findings_of run) out.old 0 result out.new }
+#[tactic(auto, unfolding(crate::specs::Findings::findings_of))]
+pub(crate) fn found(run: &Run) -> Text<LONGEST_FOUND>
+    ensures { result ≡ findings_of run.now }
 {
-    let first = run.first;
-    let stopped = put_refusals(out, 0, first, run.refused, run.read);
-    put_stopping(out, stopped, run.stop, run.place)
+    let mut found = Text::new();
+    found.push_text(&refusals(run));
+    found.push_text(&stopping(run));
+    found
 }
 
 // What is printed and found where the input is too long.
-pub(crate) fn put_unread(
-    input: &[u8],
-    output: &mut [u8; LONGEST],
-    findings: &mut [u8; LONGEST_FINDINGS],
-) -> Sizes
-    requires { most_input < length input.now }
-    ensures { Finds too_long nothing_read output.old findings.old result output.new findings.new }
+pub(crate) fn unread() -> Told
+    ensures output { result.output ≡ too_long }
+    ensures findings { result.findings ≡ nothing_read }
 {
-    let listed = put_output(input, output);
-    let size = put_text(
-        findings,
-        0,
-        b"yearbook: input longer than 65536 bytes, nothing read\n",
-    );
-    Sizes {
-        output: listed.size,
-        findings: size,
-    }
+    let mut output = Text::new();
+    output.push_str("X\n");
+    let mut findings = Text::new();
+    findings.push_str("yearbook: input longer than 65536 bytes, nothing read\n");
+    Told { output, findings }
 }
 
-// The output for an input and what is found wrong with it, each over the front of its buffer.
-pub fn put_desk(
-    input: &[u8],
-    output: &mut [u8; LONGEST],
-    findings: &mut [u8; LONGEST_FINDINGS],
-) -> Sizes
-    ensures { Finds (output_of input.now) (findings_for input.now) output.old findings.old result output.new findings.new }
+// The listing of an input, and what is found wrong with it.
+#[tactic(auto, unfolding(listing::specs::Listing::output_of, crate::specs::Findings::findings_for))]
+pub fn told_listing(input: &[u8]) -> Told
+    ensures output { result.output ≡ output_of input.now }
+    ensures findings { result.findings ≡ findings_for input.now }
 {
     if MOST_INPUT < input.len() {
-        return put_unread(input, output, findings);
+        return unread();
     }
     let run = run(input);
-    let listed = put_listing(run, output);
-    let size = put_found(findings, run);
-    Sizes {
-        output: listed.size,
-        findings: size,
+    let mut findings = Text::new();
+    findings.push_text(&found(&run));
+    Told {
+        output: listing(&run),
+        findings,
     }
 }

@@ -6,7 +6,7 @@ mod printing; // printing.rt: the printed close
 mod replies; // replies.rt: the replies, line by line
 mod summing; // summing.rt: the run in words
 
-pub use findings::{LONGEST_FINDINGS, Sizes, put_desk};
-pub use printing::put_printed;
-pub use replies::{LONGEST_REPLY, Rest, Told, all_replies, put_reply};
-pub use summing::put_run;
+pub use findings::{LONGEST_FINDINGS, Told, told_listing};
+pub use printing::told_page;
+pub use replies::{LONGEST_REPLY, Rest, all_replies, next_reply};
+pub use summing::told_run;

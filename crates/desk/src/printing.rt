@@ -1,46 +1,46 @@
 // The printed close of a journal, and what is wrong with it.
-ghost use Rattle.std.specs.Prelude.{◌+◌, ◌≤◌, length};
-ghost use Rattle.text.specs.Text.{Puts};
-ghost use Rattle.desk.specs.Findings.{unclosed_most, Finds};
+ghost use Rattle.std.specs.Prelude.{◌≡◌};
+ghost use Rattle.quantities.specs.Refusals.{met};
 ghost use Rattle.desk.specs.Printing.{unclosed, page_for, page_findings_for};
 
-use crate::findings::{LONGEST_FINDINGS, Sizes, put_found, put_unread};
+use crate::findings::{LONGEST_UNCLOSED, Told, found, unread};
 use journal::run;
 use listing::{LONGEST, MOST_INPUT};
 use page::put_page;
-use text::put_text;
-use words::put_said;
+use quantities::{Refusal, number_met};
+use text::Text;
+use words::said;
 
 // That there is no page, with its number; nothing where there is one.
-fn put_unclosed(out: &mut [u8], at: usize, number: u32) -> usize
-    requires { at + unclosed_most ≤ length out.old }
-    ensures { Puts unclosed_most (unclosed number) out.old at result out.new }
+#[tactic(auto, unfolding(crate::specs::Printing::unclosed))]
+fn unclosed(printed: Result<usize, Refusal>) -> Text<LONGEST_UNCLOSED>
+    ensures { result ≡ unclosed (met printed) }
 {
-    if number == 0 {
-        return at;
+    let mut line = Text::new();
+    if let Err(refusal) = printed {
+        line.push_str("yearbook: no page, the year is not closed: ");
+        line.push_text(&said(refusal.into()));
     }
-    let words = put_text(out, at, b"yearbook: no page, the year is not closed: ");
-    put_said(out, words, number)
+    line
 }
 
-// The printed close of an input and what is found wrong with it, each over the front of its buffer.
-pub fn put_printed(
-    input: &[u8],
-    output: &mut [u8; LONGEST],
-    findings: &mut [u8; LONGEST_FINDINGS],
-) -> Sizes
-    ensures { Finds (page_for input.now) (page_findings_for input.now) output.old findings.old result output.new findings.new }
+// The printed close of an input, and what is found wrong with it.
+#[tactic(auto, unfolding(crate::specs::Printing::page_for, crate::specs::Printing::page_findings_for))]
+pub fn told_page(input: &[u8]) -> Told
+    ensures output { result.output ≡ page_for input.now }
+    ensures findings { result.findings ≡ page_findings_for input.now }
 {
     if MOST_INPUT < input.len() {
-        return put_unread(input, output, findings);
+        return unread();
     }
     let run = run(input);
-    let book = run.book;
-    let printed = put_page(book, output);
-    let end = put_found(findings, run);
-    let size = put_unclosed(findings, end, printed.number);
-    Sizes {
-        output: printed.size,
-        findings: size,
+    let mut page = [0; LONGEST];
+    let printed = put_page(run.book, &mut page);
+    let mut findings = Text::new();
+    findings.push_text(&found(&run));
+    findings.push_text(&unclosed(printed));
+    Told {
+        output: Text::front(page, printed.unwrap_or(0)),
+        findings,
     }
 }

@@ -1,18 +1,16 @@
 // The replies to a journal's records, line by line.
-ghost use Rattle.std.specs.Prelude.{◌≡◌, ◌+◌, ◌≤◌, length};
-ghost use Rattle.text.specs.Text.{Puts};
-ghost use Rattle.desk.specs.Replies.{reply_line, end_line, reply_most, rest_of, replies_for, Tells};
+ghost use Rattle.std.specs.Prelude.{◌≡◌};
+ghost use Rattle.desk.specs.Replies.{reply_line, end_line, rest_of, replies_for, Tells};
 
 use book::{Book, fresh, step};
 use listing::MOST_INPUT;
-use quantities::GREATEST_COUNT;
+use quantities::number_met;
 use record::{Call, Read, read_at, readings_of, stop_number};
-use table::FIELDS;
-use text::{LONGEST_LINE, put_byte, put_text};
-use words::{put_call, put_figure, put_said};
+use text::{LONGEST_DECIMAL, Text, decimal};
+use words::{LONGEST_CALL, LONGEST_SAID, call_text, said};
 
-// The most bytes of a line, whatever the record: its fields, its readings and seven parts more, each at most as long as a line of the listing.
-pub const LONGEST_REPLY: usize = (FIELDS + GREATEST_COUNT as usize + 7) * LONGEST_LINE;
+// The most bytes of a line, whatever the record: a place, a call, and a number in words, with three bytes between.
+pub const LONGEST_REPLY: usize = LONGEST_DECIMAL + LONGEST_CALL + LONGEST_SAID + 16;
 
 // The replies that are still to be told: at most so many lines, from a place on, with the book that the calls before it have made.
 #[derive(Clone, Copy)]
@@ -22,93 +20,74 @@ pub struct Rest {
     pub book: Book,
 }
 
-// The bytes of the line that was put, and the replies behind it.
-#[derive(Clone, Copy)]
-pub struct Told {
-    pub size: usize,
-    pub rest: Rest,
-}
-
 // All replies to an input, none where it is too long.
 pub fn all_replies(input: &[u8]) -> Rest
     ensures { rest_of input.now result ≡ replies_for input.now }
 {
-    if MOST_INPUT < input.len() {
-        return Rest {
-            left: 0,
-            place: 0,
-            book: fresh(),
-        };
-    }
+    let left = if MOST_INPUT < input.len() {
+        0
+    } else {
+        input.len() + 1
+    };
     Rest {
-        left: input.len() + 1,
+        left,
         place: 0,
         book: fresh(),
     }
 }
 
 // The line of a record whose call was answered.
-fn put_answered(out: &mut [u8], place: usize, call: Call, readings: &[u8], number: u32) -> usize
-    requires { reply_most ≤ length out.old }
-    ensures { Puts reply_most (reply_line place call readings.now number) out.old 0 result out.new }
+#[tactic(auto, unfolding(crate::specs::Replies::reply_line))]
+fn reply_line(place: usize, call: Call, readings: &[u8], number: u32) -> Text<LONGEST_REPLY>
+    ensures { result ≡ reply_line place call readings.now number }
 {
-    let blank = put_figure(out, 0, place as u64);
-    let first = put_byte(out, blank, b' ');
-    let colon = put_call(out, first, call, readings);
-    let words = put_text(out, colon, b": ");
-    put_said(out, words, number)
+    let mut line = Text::new();
+    line.push_text(&decimal(place as u64));
+    line.push(b' ');
+    line.push_text(&call_text(call, readings));
+    line.push_str(": ");
+    line.push_text(&said(number));
+    line
 }
 
 // The last line: where and why the reading stopped.
-fn put_end(out: &mut [u8], place: usize, stop: u32) -> usize
-    requires { reply_most ≤ length out.old }
-    ensures { Puts reply_most (end_line place stop) out.old 0 result out.new }
+#[tactic(auto, unfolding(crate::specs::Replies::end_line))]
+fn end_line(place: usize, stop: u32) -> Text<LONGEST_REPLY>
+    ensures { result ≡ end_line place stop }
 {
-    let words = put_figure(out, 0, place as u64);
+    let mut line = Text::new();
+    line.push_text(&decimal(place as u64));
     if stop == 0 {
-        return put_text(out, words, b" end of journal\n");
+        line.push_str(" end of journal\n");
+    } else {
+        line.push_str(" stop: ");
+        line.push_text(&said(stop));
     }
-    let number = put_text(out, words, b" stop: ");
-    put_said(out, number, stop)
+    line
 }
 
-// The next line of the replies, and what is behind it; nothing where none is left.
-pub fn put_reply(journal: &[u8], rest: Rest, out: &mut [u8; LONGEST_REPLY]) -> Told
-    ensures { Tells journal.now rest out.old result out.new }
+// The next line of the replies, if one is left, behind which the rest stands then.
+pub fn next_reply(journal: &[u8], rest: &mut Rest) -> Option<Text<LONGEST_REPLY>>
+    ensures { Tells journal.now rest.old result rest.new }
 {
-    let left = rest.left;
-    if left == 0 {
-        return Told { size: 0, rest };
+    if rest.left == 0 {
+        return None;
     }
-    let place = rest.place;
-    let book = rest.book;
-    let read = read_at(journal, place);
+    let read = read_at(journal, rest.place);
     let Read::Record {
         call,
         readings,
         next,
     } = read
     else {
-        let size = put_end(out, place, stop_number(read));
-        return Told {
-            size,
-            rest: Rest {
-                left: 0,
-                place,
-                book,
-            },
-        };
+        rest.left = 0;
+        return Some(end_line(rest.place, stop_number(read)));
     };
     let part = readings_of(journal, readings, next);
-    let reply = step(book, call, part);
-    let size = put_answered(out, place, call, part, reply.number);
-    let after = reply.book;
-    Told {
-        size,
-        rest: Rest {
-            left: left - 1,
-            place: next,
-            book: after,
-        },
-    }
+    let answer = step(rest.book, call, part);
+    let line = reply_line(rest.place, call, part, number_met(answer));
+    rest.left -= 1;
+    rest.place = next;
+    rest.book = answer.unwrap_or(rest.book);
+    Some(line)
 }

@@ -1,28 +1,27 @@
 // The run of a journal in words, and what is wrong with it.
-ghost use Rattle.desk.specs.Findings.{findings_for, Finds};
+ghost use Rattle.std.specs.Prelude.{◌≡◌};
+ghost use Rattle.desk.specs.Findings.{findings_for};
 ghost use Rattle.desk.specs.Summing.{summary_for};
 
-use crate::findings::{LONGEST_FINDINGS, Sizes, put_found, put_unread};
+use crate::findings::{Told, found, unread};
 use journal::run;
-use listing::{LONGEST, MOST_INPUT};
-use summary::put_summary;
+use listing::MOST_INPUT;
+use summary::summary;
+use text::Text;
 
-// The run of an input in words and what is found wrong with it, each over the front of its buffer.
-pub fn put_run(
-    input: &[u8],
-    output: &mut [u8; LONGEST],
-    findings: &mut [u8; LONGEST_FINDINGS],
-) -> Sizes
-    ensures { Finds (summary_for input.now) (findings_for input.now) output.old findings.old result output.new findings.new }
+// The run of an input in words, and what is found wrong with it.
+#[tactic(auto, unfolding(crate::specs::Summing::summary_for, crate::specs::Findings::findings_for))]
+pub fn told_run(input: &[u8]) -> Told
+    ensures output { result.output ≡ summary_for input.now }
+    ensures findings { result.findings ≡ findings_for input.now }
 {
     if MOST_INPUT < input.len() {
-        return put_unread(input, output, findings);
+        return unread();
     }
     let run = run(input);
-    let text = put_summary(output, run);
-    let size = put_found(findings, run);
-    Sizes {
-        output: text,
-        findings: size,
-    }
+    let mut output = Text::new();
+    output.push_text(&summary(&run));
+    let mut findings = Text::new();
+    findings.push_text(&found(&run));
+    Told { output, findings }
 }

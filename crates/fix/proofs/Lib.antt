@@ -1,3 +1,2 @@
--- Laws of the fix, and what it takes from the division's promise.
-pub mod DivisionLaws
+-- Laws of the fix.
 pub mod FixLaws

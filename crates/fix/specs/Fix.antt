@@ -1,5 +1,6 @@
 -- The fix: firm and efficient offers, what each producer may commit, and firm demand (2.1, 2.2, 2.6.5.1).
-use Rattle.std.specs.Prelude.{List, [], map, ℕ, suc, min, ◌*◌, eqb, get_or}
+use Rattle.state.specs.declared.kept.Entry.{Entry}
+use Rattle.std.specs.Prelude.{List, [], map, ℕ, suc, min, ◌*◌, eqb, get_or, Option, None, Some}
 use Rattle.basis.specs.Choice.{pick}
 use Rattle.basis.specs.Sums.{sum_up}
 use Rattle.basis.specs.Tables.{tab}
@@ -7,36 +8,34 @@ use Rattle.share.specs.Division.{division_number, shares}
 use Rattle.quantities.specs.Limits.{greatest_power, units, producers, consumers}
 use Rattle.plant.specs.Offer.{firm_offer}
 use Rattle.plant.specs.Efficient.{chosen_year, efficient_offers}
-use Rattle.plant.specs.declared.offer.Hours.{Hours}
+use Rattle.power.specs.declared.component.Hours.{Hours}
 use Rattle.table.specs.declared.calls.Call.TheVariants as call
 use Rattle.state.specs.declared.kept.Stage.{Stage}
 use Rattle.state.specs.declared.kept.Stage.TheVariants.{Gathering, Firm}
-use Rattle.state.specs.declared.kept.Enrolment.{Enrolment}
-use Rattle.state.specs.declared.kept.Enrolment.TheVariants.{Vacant, Enrolled}
 use Rattle.state.specs.declared.kept.Unit.{Unit}
 use Rattle.state.specs.declared.kept.Declaration.{Declaration}
 use Rattle.state.specs.declared.kept.Declaration.TheVariants.{Undeclared, Declared}
 use Rattle.state.specs.declared.kept.Consumer.{Consumer}
 use Rattle.state.specs.declared.kept.Book.{Book}
-use Rattle.state.specs.declared.kept.Reply.{Reply}
+use Rattle.state.specs.State.{Reply}
 use Rattle.state.specs.State.{fresh_unit, fresh_consumer, ranged, staged, reply_of}
 
 -- the firm offer of a unit, 0 if not enrolled
-abbrev pub offer_by : Hours → Unit → Enrolment → ℕ
-offer_by h u Vacant = 0
-offer_by h u (Enrolled e) = (firm_offer e.plant h u.set u.generator u.storage).0
+abbrev pub offer_by : Hours → Unit → Option Entry → ℕ
+offer_by h u None = 0
+offer_by h u (Some e) = (firm_offer e.plant h u.components.set u.components.generator u.components.storage).0
 
 unfoldable pub offers_of : Hours → List Unit → List ℕ
 offers_of h us = map (λ u. offer_by h u u.enrolment) us
 
 -- the flags and the producer of a unit, 0 if not enrolled
-abbrev pub flags_by : Enrolment → ℕ
-flags_by Vacant = 0
-flags_by (Enrolled e) = e.flags
+abbrev pub flags_by : Option Entry → ℕ
+flags_by None = 0
+flags_by (Some e) = e.flags
 
-abbrev pub producer_by : Enrolment → ℕ
-producer_by Vacant = 0
-producer_by (Enrolled e) = e.producer
+abbrev pub producer_by : Option Entry → ℕ
+producer_by None = 0
+producer_by (Some e) = e.producer
 
 unfoldable pub flags_of : List Unit → List ℕ
 flags_of us = map (λ u. flags_by u.enrolment) us
@@ -48,11 +47,13 @@ efficient_in us offers = efficient_offers units (chosen_year units (flags_of us)
 abbrev pub greatest_limit : ℕ
 greatest_limit = units * greatest_power
 
+-- what a unit adds to a producer's limit: its efficient offer, if it is the producer's
+abbrev pub added_at : List Unit → List ℕ → ℕ → ℕ → ℕ
+added_at us efficient p i = pick (eqb (producer_by (get_or us i fresh_unit).enrolment) p) (get_or efficient i 0) 0
+
 -- the efficient offers of a producer's units
 unfoldable pub limit_of : List Unit → List ℕ → ℕ → ℕ
-limit_of us efficient p =
-    min greatest_limit
-    (sum_up (λ i. pick (eqb (producer_by (get_or us i fresh_unit).enrolment) p) (get_or efficient i 0) 0) units)
+limit_of us efficient p = min greatest_limit (sum_up (added_at us efficient p) units)
 
 unfoldable pub limits_of : List Unit → List ℕ → List ℕ
 limits_of us efficient = tab (λ i. limit_of us efficient (suc i)) producers

@@ -1,81 +1,61 @@
 // The fix: range, stage, the division of DMP, and the book of the firm year.
-ghost use Rattle.std.specs.Prelude.{◌≡◌};
+ghost use Rattle.std.specs.Prelude.{◌≡◌, []};
+ghost use Rattle.quantities.specs.Refusals.{met};
 ghost use Rattle.share.specs.Division.{shares};
-ghost use Rattle.fix.specs.Fix.{weights_of, fix_rest, fix_number_by, fixed, fix_of};
+ghost use Rattle.table.specs.declared.calls.Call.TheVariants.{Fix};
+ghost use Rattle.state.specs.declared.kept.Stage.TheVariants.{Gathering};
+ghost use Rattle.state.specs.State.{ranged, staged, replied};
+ghost use Rattle.fix.specs.Fix.{weights_of, fix_number_by, fixed, fix_of};
 
-use crate::demands::{narrow, weights, with_demands};
+use crate::demands::{demands, weights, with_demands};
 use crate::offers::{efficient, limits, offers};
-use quantities::{CONSUMERS, number_met};
-use ranges::call_number;
-use state::{Book, Consumer, GATHERING, Reply, Stage, stage_number};
+use quantities::{CONSUMERS, Refusal};
+use ranges::check_call;
+use state::{Book, Consumer, Stage, check_stage};
 use table::Call;
 
+// Number 3, then 4.
+fn check_range_and_stage(stage: Stage, dmp: u32) -> Result<(), Refusal>
+    ensures { met result ≡ ranged (Fix dmp) [] (staged Gathering stage 0) }
+{
+    check_call(Call::Fix { dmp }, b"")?;
+    check_stage(stage, Stage::Gathering)
+}
+
+// What a fix meets: 3, 4, 13, or nothing. Nothing is changed.
+#[tactic(auto, unfolding(crate::specs::Fix::fix_number_by))]
+pub fn check_fix(stage: Stage, consumers: &[Consumer; CONSUMERS], dmp: u32) -> Result<(), Refusal>
+    ensures { met result ≡ fix_number_by stage consumers.now dmp }
+{
+    check_range_and_stage(stage, dmp)?;
+    share::check_division(dmp.into(), &weights(consumers), CONSUMERS)
+}
+
 // The book of the firm year, once DMP is divided.
-fn fixed(book: Book, dmp: u32, demands: [u32; CONSUMERS]) -> Book
-    requires { demands ≡ shares dmp (weights_of book.consumers) }
+#[tactic(auto, unfolding(crate::specs::Fix::fixed))]
+fn fixed(book: Book, dmp: u32, demands: &[u32; CONSUMERS]) -> Book
+    requires { demands.now ≡ shares dmp (weights_of book.consumers) }
     ensures { result ≡ fixed book dmp }
 {
-    let hours = book.hours;
-    let units = book.units;
-    let consumers = book.consumers;
-    let balances = book.balances;
-    let closing = book.closing;
-    let offers = offers(hours, units);
-    let efficient = efficient(units, offers);
-    let limits = limits(units, efficient);
-    let consumers = with_demands(demands, consumers);
+    let offers = offers(book.hours, &book.units);
+    let efficient = efficient(&book.units, &offers);
     Book {
         stage: Stage::Firm,
-        hours,
-        units,
-        consumers,
-        balances,
+        consumers: with_demands(demands, &book.consumers),
         dmp,
         offers,
         efficient,
-        limits,
-        closing,
+        limits: limits(&book.units, &efficient),
+        ..book
     }
-}
-
-// The division of DMP by D, once no number is met.
-fn divided(dmp: u32, consumers: [Consumer; CONSUMERS]) -> [u32; CONSUMERS]
-    requires { fix_rest dmp consumers ≡ 0 }
-    ensures { result ≡ shares dmp (weights_of consumers) }
-{
-    let weights = weights(consumers);
-    let mut amounts = [0u64; CONSUMERS];
-    let _ = share::divide(dmp as u64, &weights, &mut amounts);
-    narrow(amounts)
-}
-
-// The number of a fix: 3, 4, 13, or 0. Nothing is changed.
-#[tactic(auto, unfolding(crate::specs::Fix::fix_number_by))]
-pub fn fix_number(stage: Stage, consumers: [Consumer; CONSUMERS], dmp: u32) -> u32
-    ensures { result ≡ fix_number_by stage consumers dmp }
-{
-    let number = call_number(Call::Fix { dmp }, b"");
-    if number != 0 {
-        return number;
-    }
-    if stage_number(stage) != GATHERING {
-        return 4;
-    }
-    let weights = weights(consumers);
-    number_met(share::check_division(dmp as u64, &weights, CONSUMERS))
 }
 
 // The fix at a projected maximum demand DMP, kW.
-pub fn fix(book: Book, dmp: u32) -> Reply
-    ensures { result ≡ fix_of book dmp }
+#[tactic(auto, unfolding(crate::specs::Fix::fix_number_by, crate::specs::Fix::fix_of))]
+pub fn fix(book: Book, dmp: u32) -> Result<Book, Refusal>
+    ensures { replied book result ≡ fix_of book dmp }
 {
-    let stage = book.stage;
-    let consumers = book.consumers;
-    let number = fix_number(stage, consumers, dmp);
-    if number != 0 {
-        return Reply { number, book };
-    }
-    let demands = divided(dmp, consumers);
-    let book = fixed(book, dmp, demands);
-    Reply { number: 0, book }
+    check_range_and_stage(book.stage, dmp)?;
+    let demands = demands(dmp, &book.consumers)?;
+    Ok(fixed(book, dmp, &demands))
 }

@@ -2,8 +2,10 @@
 #![tactic(auto)]
 
 mod demands; // demands.rt: what the consumers declared, and firm demand
+mod division; // division.rt: a division among all consumers
 mod fixing; // fixing.rt: the fix
 mod offers; // offers.rt: the offers of all units, and what each producer may commit
 
-pub use demands::declared;
-pub use fixing::{fix, fix_number};
+pub use demands::{declared, weights};
+pub use division::among_consumers;
+pub use fixing::{check_fix, fix};

@@ -1,57 +1,40 @@
--- What bars a call of a unit before its unit is asked: its ranges, then its stage; the readings of a test are looked at by its component.
-use mathlib.Core.Path.{◌≡◌, refl, sym, ap, ◌∙◌}
-use mathlib.Core.Bool.{Bool, true, false}
-use mathlib.Core.List.{List, []}
-use Prim.Native.Nat.{ℕ}
-use borrow.Author.Tests.{ne_eqb}
-use lib.Dec.{eqb}
+-- What the ranges that were tested tell of a call of a unit.
+use Rattle.std.specs.Prelude.{◌≡◌, ℕ, ◌≤◌, Bool, true, false, List, eqb, refl}
+use Rattle.std.proofs.Common.{sym, ap, ◌∙◌, arith}
 use Rattle.basis.specs.Choice.{pick}
+use Rattle.basis.proofs.Choice.{peel_not, handed_on}
+use Rattle.quantities.specs.Limits.{greatest_component}
+use Rattle.power.specs.declared.component.Minutes.{Minutes}
+use Rattle.power.specs.declared.component.Trial.{Trial}
 use Rattle.power.specs.Ranges.{test_in_range}
-use Rattle.table.specs.Ranges.{rest_in_range, fields_number, call_number}
-use Rattle.table.specs.declared.calls.Call.{Call}
+use Rattle.table.specs.Records.{no_column, table_of, parts_of}
+use Rattle.table.specs.Ranges.{fields_in_range, fields_number, rest_in_range, call_number}
 use Rattle.table.specs.declared.calls.Call.TheVariants.{Unit}
-use Rattle.table.specs.declared.units.UnitCall.TheVariants.{Enrol, Test, Availability}
-use Rattle.state.specs.declared.kept.Stage.{Stage}
-use Rattle.state.specs.State.{stage_number, ranged, staged}
-
--- range and stage bar a call, or what is left of its number does
-module _ (c : Call) (rs : List ℕ) (own stage : Stage) (rest : ℕ) {met : ℕ} (e : met ≡ ranged c rs (staged own stage 0)) where
-  pub bars : (met ≡ 0 → ⊥) → met ≡ ranged c rs (staged own stage rest)
-  bars h = e ∙ go (eqb (call_number c rs) 0) (eqb (stage_number stage) (stage_number own)) (λ z. h (e ∙ z))
-    where
-      go : (s t : Bool) → (pick s (pick t 0 4) (call_number c rs) ≡ 0 → ⊥) → pick s (pick t 0 4) (call_number c rs) ≡ pick s (pick t rest 4) (call_number c rs)
-      go true true k = absurd (k refl)
-      go true false k = refl
-      go false t k = refl
-
-  pub lets_pass : met ≡ 0 → rest ≡ ranged c rs (staged own stage rest)
-  lets_pass z = go (eqb (call_number c rs) 0) refl (eqb (stage_number stage) (stage_number own)) (sym e ∙ z)
-    where
-      go : (s : Bool) → eqb (call_number c rs) 0 ≡ s → (t : Bool) → pick s (pick t 0 4) (call_number c rs) ≡ 0 → rest ≡ pick s (pick t rest 4) (call_number c rs)
-      go true q true k = refl
-      go true q false k = absurd (omega native.Mathlib.Omega.arith)
-      go false q t k = absurd (borrow.Author.Tests.eqb-false (call_number c rs) 0 q k)
-
--- what is lent with an enrolment or an availability is ignored
-pub enrolment_unlent : (unit producer kind flags pic ppr e1 e2 cap : ℕ) (rs : List ℕ) → call_number (Unit unit (Enrol producer kind flags pic ppr e1 e2 cap)) [] ≡ call_number (Unit unit (Enrol producer kind flags pic ppr e1 e2 cap)) rs
-unfolding call_number rest_in_range
-enrolment_unlent unit producer kind flags pic ppr e1 e2 cap rs = refl
-
-pub availability_unlent : (unit component hd hmp hif hed : ℕ) (rs : List ℕ) → call_number (Unit unit (Availability component hd hmp hif hed)) [] ≡ call_number (Unit unit (Availability component hd hmp hif hed)) rs
-unfolding call_number rest_in_range
-availability_unlent unit component hd hmp hif hed rs = refl
-
--- single fields out of range refuse a call, whatever is lent with it
-pub fields_refuse : (c : Call) (rs : List ℕ) (rest : ℕ) {met : ℕ} → met ≡ fields_number c → (met ≡ 0 → ⊥) → met ≡ ranged c rs rest
-unfolding call_number
-fields_refuse c rs rest {met} e h = simp (← e, ne_eqb met 0 h)
+use Rattle.table.specs.declared.units.UnitCall.TheVariants.{Test, Availability}
+use Rattle.table.specs.declared.forms.Mark.TheVariants as mark
+use Rattle.table.proofs.Codec.{within_at}
+use Rattle.table.proofs.UnitLaws.{availability-ranged}
+use Rattle.state.specs.State.{ranged}
 
 -- a test with its single fields in range
-pub test_in_fields : (unit component ending tc count : ℕ) (rs : List ℕ) (rest : ℕ) {met : ℕ} → met ≡ fields_number (Unit unit (Test component ending tc count)) → met ≡ 0 → pick (test_in_range ending tc count rs) rest 3 ≡ ranged (Unit unit (Test component ending tc count)) rs rest
-unfolding call_number rest_in_range
-test_in_fields unit component ending tc count rs rest {met} e z =
-    go (test_in_range ending tc count rs) ∙ ap (λ n. pick (eqb (pick (eqb n 0) (pick (test_in_range ending tc count rs) 0 3) n) 0) rest (pick (eqb n 0) (pick (test_in_range ending tc count rs) 0 3) n)) (sym z ∙ e)
-  where
-    go : (t : Bool) → pick t rest 3 ≡ pick (eqb (pick t 0 3) 0) rest (pick t 0 3)
-    go true = refl
-    go false = refl
+module _ (unit component : ℕ) (t : Trial) (e : 0 ≡ fields_number (Unit unit (Test component t))) where
+  pub component_tested : component ≤ greatest_component
+  unfolding fields_number table_of parts_of
+  component_tested =
+      let c = Unit unit (Test component t) in
+      let h : fields_in_range c ≡ true = (peel_not (fields_in_range c) 2 0 (sym e)).0 in
+      (within_at (table_of mark.Test).columns (parts_of c).values no_column h 1 (omega arith) (omega arith)).1
+
+  pub test_in_fields : (rs : List ℕ) (rest : ℕ) → pick (test_in_range t.ending t.tc t.count rs) rest 3 ≡ ranged (Unit unit (Test component t)) rs rest
+  unfolding call_number rest_in_range
+  test_in_fields rs rest =
+      go (test_in_range t.ending t.tc t.count rs) ∙ ap (λ n. pick (eqb (pick (eqb n 0) (pick (test_in_range t.ending t.tc t.count rs) 0 3) n) 0) rest (pick (eqb n 0) (pick (test_in_range t.ending t.tc t.count rs) 0 3) n)) e
+    where
+      go : (s : Bool) → pick s rest 3 ≡ pick (eqb (pick s 0 3) 0) rest (pick s 0 3)
+      go true = refl
+      go false = refl
+
+-- the component of an availability in range
+pub component_available : (unit component : ℕ) (m : Minutes) (rs : List ℕ) (rest : ℕ) → 0 ≡ ranged (Unit unit (Availability component m)) rs rest → component ≤ greatest_component
+component_available unit component m rs rest e =
+    (availability-ranged unit component m rs (handed_on (call_number (Unit unit (Availability component m)) rs) rest (sym e)).0).component

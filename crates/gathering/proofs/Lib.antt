@@ -1,4 +1,4 @@
 -- Laws of the calls of a unit.
 pub mod Bars
-pub mod Refusals
+pub mod Trials
 pub mod Settled

@@ -1,12 +1,11 @@
 -- The calls of a unit: enrolment, test, availability ("unit, test, availability .. belong to gathering").
-use Rattle.std.specs.Prelude.{Bool, true, false, List, ℕ, ◌-◌, eqb, set}
+use Rattle.power.specs.declared.quantity.Kw.{Kw}
+use Rattle.std.specs.Prelude.{Bool, true, false, List, ℕ, ◌-◌, eqb, set, Option, None, Some}
 use Rattle.basis.specs.Choice.{pick}
 use Rattle.power.specs.Quantity.{kw, kwh}
-use Rattle.power.specs.Power.{fresh, test_number, test_of}
+use Rattle.power.specs.Power.{test_number, test_of}
 use Rattle.plant.specs.Availability.{minutes, availability_number, availability_of}
 use Rattle.quantities.specs.Flags.{flagged, injection_given, report_held}
-use Rattle.power.specs.declared.component.Cap.{Cap}
-use Rattle.power.specs.declared.component.Cap.TheVariants.{Free, At}
 use Rattle.power.specs.declared.component.Component.{Component}
 use Rattle.table.specs.declared.calls.Call.TheVariants as call
 use Rattle.table.specs.declared.units.UnitCall.{UnitCall}
@@ -14,19 +13,16 @@ use Rattle.table.specs.declared.units.UnitCall.TheVariants.{Enrol, Test, Availab
 use Rattle.state.specs.declared.kept.Stage.{Stage}
 use Rattle.state.specs.declared.kept.Stage.TheVariants.{Gathering}
 use Rattle.state.specs.declared.kept.Entry.{Entry}
-use Rattle.state.specs.declared.kept.Enrolment.{Enrolment}
-use Rattle.state.specs.declared.kept.Enrolment.TheVariants.{Vacant, Enrolled}
 use Rattle.state.specs.declared.kept.Unit.{Unit}
 use Rattle.state.specs.declared.kept.Book.{Book}
-use Rattle.state.specs.declared.kept.Reply.{Reply}
-use Rattle.gathering.specs.declared.units.UnitAnswer.{UnitAnswer}
-use Rattle.gathering.specs.declared.units.UnitAnswer.TheVariants.{Refused, Stored}
-use Rattle.state.specs.State.{unit_at, with_units, ranged, staged, reply_of}
+use Rattle.state.specs.State.{Reply}
+use Rattle.quantities.specs.Refusals.{Decided, decided_by}
+use Rattle.state.specs.State.{fresh_components, unit_at, with_units, ranged, staged, reply_of}
 
 -- number 5: unit already enrolled
-abbrev pub vacancy : Enrolment → ℕ
-vacancy Vacant = 0
-vacancy (Enrolled e) = 5
+abbrev pub vacancy : Option Entry → ℕ
+vacancy None = 0
+vacancy (Some e) = 5
 
 -- flag 8: PIC given; flag 16: supply report held
 abbrev pub entry_of : ℕ → ℕ → ℕ → ℕ → ℕ → ℕ → ℕ → ℕ → Entry
@@ -34,7 +30,7 @@ entry_of producer kind flags pic ppr e1 e2 cap =
     record {
       producer = producer;
       flags = flags;
-      cap = pick (flagged injection_given flags) (At (kw pic)) Free;
+      cap = pick (flagged injection_given flags) (Some (kw pic)) None;
       plant =
           record {
             kind = kind;
@@ -48,7 +44,7 @@ entry_of producer kind flags pic ppr e1 e2 cap =
 
 -- a unit that is enrolled, with no test and no availability
 abbrev pub enrolled_unit : Entry → Unit
-enrolled_unit e = record { enrolment = Enrolled e; set = fresh; generator = fresh; storage = fresh }
+enrolled_unit e = record { enrolment = Some e; components = fresh_components }
 
 -- "Kind 8 has components 0 set, 1 generator, 2 storage, with availability for 1 and 2 only; others have component 0."
 abbrev pub has_test : ℕ → ℕ → Bool
@@ -58,42 +54,45 @@ abbrev pub has_availability : ℕ → ℕ → Bool
 has_availability kind component = pick (eqb kind 8) (pick (eqb component 0) false true) (eqb component 0)
 
 abbrev pub component_of : Unit → ℕ → Component
-component_of u component = pick (eqb component 0) u.set (pick (eqb component 1) u.generator u.storage)
+component_of u component = pick (eqb component 0) u.components.set (pick (eqb component 1) u.components.generator u.components.storage)
 
 abbrev pub with_component : Unit → ℕ → Component → Unit
 with_component u component x =
     record {
       enrolment = u.enrolment;
-      set = pick (eqb component 0) x u.set;
-      generator = pick (eqb component 1) x u.generator;
-      storage = pick (eqb component 2) x u.storage;
+      components =
+          record {
+            set = pick (eqb component 0) x u.components.set;
+            generator = pick (eqb component 1) x u.components.generator;
+            storage = pick (eqb component 2) x u.components.storage;
+          };
     }
 
 -- PIC, of a unit that is not enrolled none
-abbrev pub cap_of : Enrolment → Cap
-cap_of Vacant = Free
-cap_of (Enrolled e) = e.cap
+abbrev pub cap_of : Option Entry → Option Kw
+cap_of None = None
+cap_of (Some e) = e.cap
 
 -- 6 not enrolled, 7 component foreign to kind, then what the component answers
-abbrev pub component_rest : (ℕ → ℕ → Bool) → Enrolment → ℕ → ℕ → ℕ
-component_rest owned Vacant component answered = 6
-component_rest owned (Enrolled e) component answered = pick (owned e.plant.kind component) answered 7
+abbrev pub component_rest : (ℕ → ℕ → Bool) → Option Entry → ℕ → ℕ → ℕ
+component_rest owned None component answered = 6
+component_rest owned (Some e) component answered = pick (owned e.plant.kind component) answered 7
 
 -- .. 8
-unfoldable pub test_rest : Enrolment → ℕ → ℕ → ℕ → ℕ → List ℕ → ℕ
+unfoldable pub test_rest : Option Entry → ℕ → ℕ → ℕ → ℕ → List ℕ → ℕ
 test_rest enrolment component ending tc count readings =
     component_rest has_test enrolment component (test_number ending tc count readings)
 
 -- .. 9
-unfoldable pub availability_rest : Enrolment → ℕ → ℕ → ℕ → ℕ → ℕ → ℕ
+unfoldable pub availability_rest : Option Entry → ℕ → ℕ → ℕ → ℕ → ℕ → ℕ
 availability_rest enrolment component hd hmp hif hed =
     component_rest has_availability enrolment component (availability_number (minutes hd hmp hif hed))
 
 -- behind 3 and 4. Enrolment: 5. Test: 6, 7, 8. Availability: 6, 7, 9
 unfoldable pub unit_rest : UnitCall → Unit → List ℕ → ℕ
-unit_rest (Enrol producer kind flags pic ppr e1 e2 cap) u readings = vacancy u.enrolment
-unit_rest (Test component ending tc count) u readings = test_rest u.enrolment component ending tc count readings
-unit_rest (Availability component hd hmp hif hed) u readings = availability_rest u.enrolment component hd hmp hif hed
+unit_rest (Enrol e) u readings = vacancy u.enrolment
+unit_rest (Test component t) u readings = test_rest u.enrolment component t.ending t.tc t.count readings
+unit_rest (Availability component m) u readings = availability_rest u.enrolment component m.hd m.hmp m.hif m.hed
 
 -- the unit with the component after the test
 unfoldable pub tested_unit : Unit → ℕ → ℕ → ℕ → ℕ → List ℕ → Unit
@@ -107,9 +106,9 @@ available_unit u component hd hmp hif hed =
 
 -- the unit after a call
 unfoldable pub unit_after : UnitCall → Unit → List ℕ → Unit
-unit_after (Enrol producer kind flags pic ppr e1 e2 cap) u readings = enrolled_unit (entry_of producer kind flags pic ppr e1 e2 cap)
-unit_after (Test component ending tc count) u readings = tested_unit u component ending tc count readings
-unit_after (Availability component hd hmp hif hed) u readings = available_unit u component hd hmp hif hed
+unit_after (Enrol e) u readings = enrolled_unit (entry_of e.producer e.kind e.flags e.pic e.ppr e.e1 e.e2 e.cap)
+unit_after (Test component t) u readings = tested_unit u component t.ending t.tc t.count readings
+unit_after (Availability component m) u readings = available_unit u component m.hd m.hmp m.hif m.hed
 
 -- unit: 3, 4, 5; test: 3, 4, 6, 7, 8; availability: 3, 4, 6, 7, 9
 unfoldable pub unit_number : ℕ → UnitCall → Stage → Unit → List ℕ → ℕ
@@ -125,10 +124,6 @@ unfoldable pub unit_of : Book → ℕ → UnitCall → List ℕ → Reply
 unit_of b unit act readings =
     reply_of (unit_number unit act b.stage (unit_at b.units unit) readings) b (after_unit b unit act readings)
 
--- a number refuses; without one the unit is stored
-abbrev pub unit_answered : ℕ → Unit → UnitAnswer
-unit_answered number u = pick (eqb number 0) (Stored u) (Refused number)
-
 -- what a call comes to for its unit
-unfoldable pub unit_answer_of : ℕ → UnitCall → Stage → Unit → List ℕ → UnitAnswer
-unit_answer_of unit act stage u readings = unit_answered (unit_number unit act stage u readings) (unit_after act u readings)
+unfoldable pub unit_answer_of : ℕ → UnitCall → Stage → Unit → List ℕ → Decided Unit
+unit_answer_of unit act stage u readings = decided_by (unit_number unit act stage u readings) (unit_after act u readings)

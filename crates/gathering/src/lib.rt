@@ -5,4 +5,4 @@ mod components; // components.rt: test and availability
 mod enrolment; // enrolment.rt: what a unit is enrolled with
 mod units; // units.rt: calls of a unit
 
-pub use units::{UnitAnswer, unit_answer};
+pub use units::unit_answer;

@@ -9,7 +9,7 @@ use lib.ListN.{length}
 use Rattle.record.specs.declared.reading.Read.{Read}
 use Rattle.record.specs.declared.reading.Read.TheVariants.{End, Cut, Unknown, Record}
 use Rattle.record.specs.Reading.{read_at, part_of}
-use Rattle.state.specs.declared.kept.Reply.{Reply}
+use Rattle.state.specs.State.{Reply}
 use Rattle.book.specs.Step.{step_of}
 use Rattle.journal.specs.declared.outcome.Run.{Run}
 use Rattle.journal.specs.Run.{started, answered, stopped, run_from, run_of}

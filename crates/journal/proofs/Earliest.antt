@@ -1,4 +1,5 @@
 -- The counts of the replies, and that the record which a run names is the first refused one in the journal.
+use Rattle.std.specs.Prelude.{Option, None, Some}
 use mathlib.Core.Path.{◌≡◌, refl, sym, ◌∙◌}
 use mathlib.Core.Bool.{Bool, true, false}
 use mathlib.Core.List.{List, [], ◌∷◌}
@@ -11,8 +12,7 @@ use Rattle.record.specs.declared.reading.Read.{Read}
 use Rattle.record.specs.declared.reading.Read.TheVariants.{End, Cut, Unknown, Record}
 use Rattle.record.specs.Reading.{read_at}
 use Rattle.book.specs.Lists.{Event, reply_to}
-use Rattle.journal.specs.declared.outcome.FirstRefused.{FirstRefused}
-use Rattle.journal.specs.declared.outcome.FirstRefused.TheVariants.{Nothing, At}
+use Rattle.journal.specs.declared.outcome.Refused.{Refused}
 use Rattle.journal.specs.declared.outcome.Run.{Run}
 use Rattle.journal.specs.Run.{started, answered, run_of}
 use Rattle.journal.specs.Calls.{places_from, calls_of, record_places, numbers_after, reply_numbers}
@@ -54,9 +54,9 @@ none_in (n ∷ ns) h (suc k) = none_in ns (omega arith) k
 pub earliest-refused : EarliestRefused
 earliest-refused s = go (run_of s).first refl
   where
-    go : (f : FirstRefused) → (run_of s).first ≡ f → Earliest s f
-    go Nothing e = λ k l. none_in (reply_numbers s) (sym (replies_counted s).refused ∙ (naming s).none e) k
-    go (At place number) e = named_first s place number e
+    go : (f : Option Refused) → (run_of s).first ≡ f → Earliest s f
+    go None e = λ k l. none_in (reply_numbers s) (sym (replies_counted s).refused ∙ (naming s).none e) k
+    go (Some first) e = named_first s first.place first.number e
 
 -- places from one on, each behind the one before
 data Ascending : ℕ → List ℕ → Type 0 where

@@ -7,12 +7,12 @@ use native.Mathlib.Omega.{arith}
 use borrow.Author.Tests.{leb-true}
 use lib.Dec.{leb, ltb}
 use lib.ListN.{length}
+use Rattle.std.specs.Prelude.{Option, None, Some}
 use Rattle.basis.specs.Choice.{pick}
 use Rattle.basis.specs.Numbers.{number_at}
 use Rattle.table.specs.Records.{form_of, mark_at}
 use Rattle.table.specs.declared.calls.Call.{Call}
-use Rattle.table.specs.declared.forms.Found.{Found}
-use Rattle.table.specs.declared.forms.Found.TheVariants.{Nothing, One}
+use Rattle.table.specs.declared.forms.Mark.{Mark}
 use Rattle.record.specs.Reading.{read_call, read_marked, read_found, read_at, part_of}
 use Rattle.record.specs.declared.reading.Read.{Read}
 use Rattle.record.specs.declared.reading.Read.TheVariants.{End, Cut, Unknown, Record}
@@ -46,10 +46,10 @@ not_unknown e = let z : ◌≡◌ {A = ℕ} 0 1 = cc in omega arith
 not_record : {c : Call} {from next : ℕ} → Record c from next ≡ End → ⊥
 not_record e = let z : ◌≡◌ {A = ℕ} 0 1 = cc in omega arith
 
-found_more : (s : List ℕ) (at : ℕ) (f : Found) → read_found s at f ≡ End → ⊥
+found_more : (s : List ℕ) (at : ℕ) (f : Option Mark) → read_found s at f ≡ End → ⊥
 unfolding read_marked read_call
-found_more s at Nothing e = not_unknown e
-found_more s at (One m size width) e =
+found_more s at None e = not_unknown e
+found_more s at (Some m) e =
     cut_or (ltb (length s - at) (form_of m).size) _
     (λ p. cut_or (ltb (length s - at) ((form_of m).size + _)) (Record _ _ _) not_record p) e
 

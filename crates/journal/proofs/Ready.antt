@@ -14,24 +14,20 @@ use Rattle.quantities.specs.Limits.{consumers}
 use Rattle.table.specs.Ranges.{call_number}
 use Rattle.table.specs.declared.calls.Call.TheVariants as call
 use Rattle.table.specs.declared.consumers.ConsumerCall.{ConsumerCall}
+use Rattle.power.specs.declared.component.Hours.{Hours}
 use Rattle.state.specs.declared.kept.Stage.{Stage}
 use Rattle.state.specs.declared.kept.Consumer.{Consumer}
 use Rattle.state.specs.declared.kept.Book.{Book}
-use Rattle.state.specs.declared.kept.Reply.{Reply}
+use Rattle.state.specs.State.{Reply}
 use Rattle.state.specs.State.{fresh_consumer, stage_number, with_consumers}
 use Rattle.fix.specs.Fix.{declared_by, weights_of}
 use Rattle.close.specs.Close.{real_demand, reals_of, close_number_from, close_number_by, close_number, closed, close_of}
 use Rattle.close.proofs.CloseLaws.{number_from}
+use Rattle.journal.specs.Ledger.{Ready}
 use Rattle.book.specs.Year.{year_number, begun, year_of}
-use Rattle.decision.specs.Consumers.{consumer_rest, consumer_after, consumer_number, consumer_answered, consumer_answer_of}
+use Rattle.decision.specs.Consumers.{consumer_rest, consumer_after, consumer_number, consumer_answer_of}
 use Rattle.decision.proofs.Acts.{declaration_kept}
-use Rattle.decision.specs.declared.consumers.ConsumerAnswer.TheVariants.{Refused, Stored}
-
--- a place for each consumer, and in stage firm what all of them declared and the real demand of each
-pub record Ready (b : Book) (total : ℕ) (reals : List ℕ) : Type 0 where
-  pub count : length reals ≡ consumers
-  pub total_right : stage_number b.stage ≡ 2 → total ≡ sum (weights_of b.consumers)
-  pub reals_right : stage_number b.stage ≡ 2 → reals ≡ reals_of b.consumers
+use Rattle.quantities.specs.Refusals.{Refused, Stored, decided_by}
 
 -- in another stage nothing is asked
 pub not_firm : {b : Book} {total : ℕ} {reals : List ℕ} → length reals ≡ consumers → (stage_number b.stage ≡ 2 → ⊥) → Ready b total reals
@@ -50,7 +46,7 @@ map_kept f (y ∷ ys) zero x e = ap (λ v. v ∷ map f ys) e
 map_kept f (y ∷ ys) (suc i) x e = ap (λ l. f y ∷ l) (map_kept f ys i x e)
 
 -- an answer that stores
-stored : (n : ℕ) (x y : Consumer) → consumer_answered n x ≡ Stored y → (n ≡ 0) × (x ≡ y)
+stored : (n : ℕ) (x y : Consumer) → decided_by n x ≡ Stored y → (n ≡ 0) × (x ≡ y)
 stored n x y e = go (eqb n 0) refl e
   where
     go : (t : Bool) → eqb n 0 ≡ t → pick t (Stored x) (Refused n) ≡ Stored y → (n ≡ 0) × (x ≡ y)
@@ -75,10 +71,10 @@ ready_stored b total reals consumer act place after r e =
     }
 
 -- the year and the close lead to other stages
-pub ready_begun : (b : Book) (nhrm nhmd ndhmd : ℕ) (number total : ℕ) (reals : List ℕ) {r : Reply} → length reals ≡ consumers → number ≡ year_number b nhrm nhmd ndhmd → number ≡ 0 → r ≡ year_of b nhrm nhmd ndhmd → Ready r.book total reals
+pub ready_begun : (b : Book) (hours : Hours) (number total : ℕ) (reals : List ℕ) {r : Reply} → length reals ≡ consumers → number ≡ year_number b hours → number ≡ 0 → r ≡ year_of b hours → Ready r.book total reals
 unfolding year_of begun
-ready_begun b nhrm nhmd ndhmd number total reals {r} n e z f =
-    let w : stage_number r.book.stage ≡ 1 = ap (λ (q : Reply). stage_number q.book.stage) f ∙ ap (λ m. stage_number (pick (eqb m 0) (begun b nhrm nhmd ndhmd) b).stage) (sym e ∙ z) in
+ready_begun b hours number total reals {r} n e z f =
+    let w : stage_number r.book.stage ≡ 1 = ap (λ (q : Reply). stage_number q.book.stage) f ∙ ap (λ m. stage_number (pick (eqb m 0) (begun b hours) b).stage) (sym e ∙ z) in
     not_firm n (λ s. omega (arith, w, s))
 
 pub ready_closed : (b : Book) (p : ℕ) (number total : ℕ) (reals : List ℕ) {r : Reply} → length reals ≡ consumers → number ≡ close_number b p → number ≡ 0 → r ≡ close_of b p → Ready r.book total reals

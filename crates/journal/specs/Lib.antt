@@ -2,4 +2,5 @@
 pub mod Run
 pub mod Calls
 pub mod Tally
+pub mod Ledger
 pub mod Promises

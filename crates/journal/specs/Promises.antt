@@ -1,10 +1,9 @@
 -- What is promised of the run over a journal, beyond its own definition.
-use Rattle.std.specs.Prelude.{◌≡◌, List, [], ◌∷◌, ℕ, ◌+◌, ◌≤◌, ◌<◌, eqb, length, get_or}
+use Rattle.std.specs.Prelude.{◌≡◌, List, [], ◌∷◌, ℕ, ◌+◌, ◌≤◌, ◌<◌, eqb, length, get_or, Option, None, Some}
 use Rattle.basis.specs.Choice.{pick}
 use Rattle.record.specs.Reading.{read_at, stop_number}
 use Rattle.record.specs.declared.reading.Read.TheVariants.{Cut, Unknown}
-use Rattle.journal.specs.declared.outcome.FirstRefused.{FirstRefused}
-use Rattle.journal.specs.declared.outcome.FirstRefused.TheVariants.{Nothing, At}
+use Rattle.journal.specs.declared.outcome.Refused.{Refused}
 use Rattle.journal.specs.declared.outcome.Run.{Run}
 use Rattle.journal.specs.Run.{run_of}
 use Rattle.journal.specs.Calls.{calls_of, record_places, reply_numbers, FirstRefusedAt}
@@ -46,9 +45,9 @@ abbrev pub NoneRefused : List ℕ → Type 0
 NoneRefused s = (k : ℕ) → k < length (calls_of s) → get_or (reply_numbers s) k 0 ≡ 0
 
 -- what is named is the first refused record, and "If it names none, no record read was refused."
-abbrev pub Earliest : List ℕ → FirstRefused → Type 0
-Earliest s Nothing = NoneRefused s
-Earliest s (At place number) = FirstRefusedAt s place number
+abbrev pub Earliest : List ℕ → Option Refused → Type 0
+Earliest s None = NoneRefused s
+Earliest s (Some first) = FirstRefusedAt s first.place first.number
 
 -- "it returns the place of the first refused record in the journal"
 abbrev pub EarliestRefused : Type 0

@@ -1,34 +1,37 @@
 -- The run over a journal ("Journal records").
-use Rattle.std.specs.Prelude.{List, [], ◌∷◌, ℕ, zero, suc, ◌+◌, eqb, length}
+use Rattle.std.specs.Prelude.{List, [], ◌∷◌, ℕ, zero, suc, ◌+◌, eqb, length, Option, None, Some}
 use Rattle.basis.specs.Choice.{pick}
 use Rattle.record.specs.declared.reading.Read.TheVariants.{End, Cut, Unknown, Record}
 use Rattle.record.specs.Reading.{read_at, stop_number, part_of}
-use Rattle.state.specs.declared.kept.Reply.{Reply}
+use Rattle.state.specs.State.{Reply}
 use Rattle.state.specs.State.{fresh_book}
 use Rattle.book.specs.Step.{step_of}
-use Rattle.journal.specs.declared.outcome.FirstRefused.{FirstRefused}
-use Rattle.journal.specs.declared.outcome.FirstRefused.TheVariants.{Nothing, At}
+use Rattle.journal.specs.declared.outcome.Refused.{Refused}
 use Rattle.journal.specs.declared.outcome.Run.{Run}
 
 -- "The run starts from a fresh book"
 unfoldable pub started : Run
 started =
-    record { book = fresh_book; read = 0; accepted = 0; refused = 0; stop = 0; place = 0; first = Nothing }
+    record { book = fresh_book; read = 0; accepted = 0; refused = 0; stop = 0; place = 0; first = None }
+
+-- a record was refused at a place with a number
+abbrev pub named_at : ℕ → ℕ → Option Refused
+named_at place number = Some (record { place = place; number = number })
 
 -- what the answer names: no place where nothing was refused, else the place of one record
-abbrev pub named_places : FirstRefused → List ℕ
-named_places Nothing = []
-named_places (At place number) = place ∷ []
+abbrev pub named_places : Option Refused → List ℕ
+named_places None = []
+named_places (Some first) = first.place ∷ []
 
 -- .. and its number
-abbrev pub named_numbers : FirstRefused → List ℕ
-named_numbers Nothing = []
-named_numbers (At place number) = number ∷ []
+abbrev pub named_numbers : Option Refused → List ℕ
+named_numbers None = []
+named_numbers (Some first) = first.number ∷ []
 
--- a record was refused at a place with a number: the first one stays
-abbrev pub refused_at : FirstRefused → ℕ → ℕ → FirstRefused
-refused_at Nothing place number = At place number
-refused_at (At first said) place number = At first said
+-- .. the first one stays
+abbrev pub refused_at : Option Refused → ℕ → ℕ → Option Refused
+refused_at None place number = named_at place number
+refused_at (Some first) place number = Some first
 
 -- the call of the record at the run's place was answered, and the next record is looked for behind it
 abbrev pub answered : Run → Reply → ℕ → Run

@@ -1,14 +1,13 @@
 -- The counts and the place of a run, kept apart from its book.
-use Rattle.std.specs.Prelude.{ℕ, ◌+◌, eqb}
+use Rattle.std.specs.Prelude.{ℕ, ◌+◌, eqb, None}
 use Rattle.basis.specs.Choice.{pick}
 use Rattle.state.specs.declared.kept.Book.{Book}
-use Rattle.journal.specs.declared.outcome.FirstRefused.TheVariants.{Nothing}
 use Rattle.journal.specs.declared.outcome.Run.{Run}
 use Rattle.journal.specs.declared.outcome.Tally.{Tally}
 use Rattle.journal.specs.Run.{refused_at}
 
 abbrev pub no_tally : Tally
-no_tally = record { read = 0; accepted = 0; refused = 0; place = 0; first = Nothing }
+no_tally = record { read = 0; accepted = 0; refused = 0; place = 0; first = None }
 
 -- with the record at the place answered by a number
 abbrev pub tallied : Tally → ℕ → ℕ → Tally

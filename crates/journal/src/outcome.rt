@@ -1,15 +1,17 @@
 // What the run returns, and what it counts.
 ghost use Rattle.std.specs.Prelude.{◌≡◌, ◌+◌, ◌<◌, ◌^◌};
+ghost use Rattle.quantities.specs.Refusals.{met};
 ghost use Rattle.journal.specs.Run.{refused_at};
 ghost use Rattle.journal.specs.Tally.{no_tally, tallied, run_with};
 
+use quantities::{Refusal, number_met};
 use state::Book;
 
-// The place of the first record that was refused, with its number, if any was.
+// The place of a record that was refused, and the number that it met.
 #[derive(Clone, Copy)]
-pub enum FirstRefused {
-    Nothing,
-    At { place: usize, number: u32 },
+pub struct Refused {
+    pub place: usize,
+    pub number: u32,
 }
 
 #[derive(Clone, Copy)]
@@ -22,76 +24,65 @@ pub struct Run {
     // The number of the stop and its place, 0 and the journal's length without one.
     pub stop: u32,
     pub place: usize,
-    pub first: FirstRefused,
+    // The first record that was refused, if any was.
+    pub first: Option<Refused>,
 }
 
 // What a run has counted, and where it stands, apart from its book.
 #[derive(Clone, Copy)]
-pub struct Tally {
-    pub read: usize,
-    pub accepted: usize,
-    pub refused: usize,
-    pub place: usize,
-    pub first: FirstRefused,
+pub(crate) struct Tally {
+    pub(crate) read: usize,
+    pub(crate) accepted: usize,
+    pub(crate) refused: usize,
+    pub(crate) place: usize,
+    pub(crate) first: Option<Refused>,
 }
 
-pub(crate) fn no_tally() -> Tally
-    ensures { result ≡ no_tally }
-{
-    Tally {
-        read: 0,
-        accepted: 0,
-        refused: 0,
-        place: 0,
-        first: FirstRefused::Nothing,
+impl Tally {
+    pub(crate) fn new() -> Tally
+        ensures { result ≡ no_tally }
+    {
+        Tally {
+            read: 0,
+            accepted: 0,
+            refused: 0,
+            place: 0,
+            first: None,
+        }
     }
-}
 
-pub(crate) fn refused_at(first: FirstRefused, place: usize, number: u32) -> FirstRefused
-    ensures { result ≡ refused_at first place number }
-{
-    match first {
-        FirstRefused::Nothing => FirstRefused::At { place, number },
-        FirstRefused::At { .. } => first,
+    // The record at the tally's place is answered, and the next one stands behind it.
+    pub(crate) fn count(&mut self, answer: Result<(), Refusal>, next: usize)
+        requires { (self.old.read + 1 < 2 ^ 64) × (self.old.accepted + 1 < 2 ^ 64) × (self.old.refused + 1 < 2 ^ 64) }
+        ensures { self.new ≡ tallied self.old (met answer) next }
+    {
+        match answer {
+            Ok(()) => self.accepted += 1,
+            Err(refusal) => {
+                self.refused += 1;
+                let refused = Refused {
+                    place: self.place,
+                    number: refusal.into(),
+                };
+                self.first = self.first.or(Some(refused));
+            }
+        }
+        self.read += 1;
+        self.place = next;
     }
-}
 
-// The tally with the record at its place answered by a number, and the place behind it.
-pub(crate) fn counted(tally: Tally, number: u32, next: usize) -> Tally
-    requires { (tally.read + 1 < 2 ^ 64) × (tally.accepted + 1 < 2 ^ 64) × (tally.refused + 1 < 2 ^ 64) }
-    ensures { result ≡ tallied tally number next }
-{
-    let first = tally.first;
-    if number == 0 {
-        return Tally {
-            read: tally.read + 1,
-            accepted: tally.accepted + 1,
-            refused: tally.refused,
-            place: next,
-            first,
-        };
-    }
-    Tally {
-        read: tally.read + 1,
-        accepted: tally.accepted,
-        refused: tally.refused + 1,
-        place: next,
-        first: refused_at(first, tally.place, number),
-    }
-}
-
-// The run that ends with a tally and a book, at a stop or without one.
-pub(crate) fn ended(book: Book, tally: Tally, stop: u32) -> Run
-    ensures { result ≡ run_with tally book stop }
-{
-    let first = tally.first;
-    Run {
-        book,
-        read: tally.read,
-        accepted: tally.accepted,
-        refused: tally.refused,
-        stop,
-        place: tally.place,
-        first,
+    // The run that ends with the tally and a book, at a stop or without one.
+    pub(crate) fn ended(self, book: Book, stop: u32) -> Run
+        ensures { result ≡ run_with self book stop }
+    {
+        Run {
+            book,
+            read: self.read,
+            accepted: self.accepted,
+            refused: self.refused,
+            stop,
+            place: self.place,
+            first: self.first,
+        }
     }
 }

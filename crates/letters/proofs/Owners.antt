@@ -1,37 +1,36 @@
--- The producers of the units, searched one by one.
-use mathlib.Core.Path.{◌≡◌, ◌∙◌}
-use mathlib.Core.Bool.{true, false}
-use mathlib.Core.List.{List}
-use Prim.Native.Nat.{ℕ, ◌+◌, ◌≤◌, ◌<◌}
-use native.Mathlib.Numerals.{add-one}
-use native.Mathlib.Omega.{arith}
-use borrow.Author.Tests.{eq-eqb, ne_eqb}
-use lib.Dec.{eqb}
-use lib.ListN.{length, get_or, drop, drop_of_length-le}
-use lib.Seq.{drop-cons}
+-- Whose units they are.
+use Rattle.std.proofs.Common.{◌≡◌, Bool, true, false, ℕ, List, [], ◌∷◌, ◌||◌, eqb, length, get_or, map, refl, sym, ap, ◌∙◌, arith}
+use Rattle.std.specs.List.{list_any}
+use Rattle.std.proofs.lemmas.List.{get_or-map, length-map}
 use Rattle.basis.specs.Choice.{pick}
-use Rattle.basis.specs.Sums.{sum}
-use Rattle.basis.proofs.Answers.{in_between}
-use Rattle.quantities.specs.Limits.{producers}
-use Rattle.state.specs.State.{row_of}
-use Rattle.decision.specs.ContractCalls.{producer_balance}
-use Rattle.letters.specs.Letters.{owns}
+use Rattle.basis.specs.Tables.{tab}
+use Rattle.basis.proofs.Tables.{tab_of, tab_same}
+use Rattle.quantities.specs.Limits.{units}
+use Rattle.state.specs.declared.kept.Unit.{Unit}
+use Rattle.state.specs.State.{fresh_unit}
+use Rattle.fix.specs.Fix.{producer_by}
+use Rattle.letters.specs.Letters.{owner_at, owners_of, owns}
 
-module _ (l : List ℕ) (i p : ℕ) where
-  opened : i < length l → owns (drop i l) p ≡ pick (eqb (get_or l i 0) p) true (owns (drop (i + 1) l) p)
-  unfolding owns
-  opened h = rw (add-one, drop-cons l i 0 h)
+abbrev owner : Unit → ℕ
+owner u = producer_by u.enrolment
 
-  pub owns_here : i < length l → get_or l i 0 ≡ p → owns (drop i l) p ≡ true
-  owns_here h e = opened h ∙ rw (eq-eqb (get_or l i 0) p e)
+either : (b c : Bool) → pick b true c ≡ (b || c)
+either true c = refl
+either false c = refl
 
-  pub owns_further : i < length l → (get_or l i 0 ≡ p → ⊥) → owns (drop i l) p ≡ owns (drop (i + 1) l) p
-  owns_further h e = opened h ∙ rw (ne_eqb (get_or l i 0) p e)
+owns_map : (us : List Unit) (p : ℕ) → owns (map owner us) p ≡ list_any (λ u. eqb (owner u) p) us
+unfolding owns
+owns_map [] p = refl
+owns_map (u ∷ us) p =
+    either (eqb (owner u) p) (owns (map owner us) p) ∙ ap (λ b. eqb (owner u) p || b) (owns_map us p)
 
-  pub owns_none : length l ≤ i → owns (drop i l) p ≡ false
-  unfolding owns
-  owns_none h = rw (drop_of_length-le l h)
+owners_map : (us : List Unit) → length us ≡ units → owners_of us ≡ map owner us
+unfolding owners_of
+owners_map us h =
+    tab_same (owner_at us) (λ k. get_or (map owner us) k 0) units (λ k below. sym (get_or-map owner us k fresh_unit 0 (omega arith)))
+    ∙ ap (λ n. tab (λ k. get_or (map owner us) k 0) n) (sym (length-map us owner ∙ h))
+    ∙ tab_of (map owner us) 0
 
--- the sum of a producer's balances
-pub balance_at : (balances : List ℕ) (i : ℕ) → i < producers → producer_balance balances (i + 1) ≡ sum (row_of balances (i + 1))
-balance_at balances i h = rw (in_between 1 producers (i + 1) (omega arith) (omega arith))
+-- a producer has a unit where one of the units is its own
+pub owns_some : (us : List Unit) (p : ℕ) → length us ≡ units → owns (owners_of us) p ≡ list_any (λ u. eqb (owner u) p) us
+owns_some us p h = ap (λ (l : List ℕ). owns l p) (owners_map us h) ∙ owns_map us p

@@ -1,11 +1,10 @@
 -- The lines of each letter ("Journal in, listing out"); "within a letter the numbers ascend".
-use Rattle.std.specs.Prelude.{Bool, true, false, List, [], ◌∷◌, ℕ, ◌+◌, eqb, get_or}
+use Rattle.state.specs.declared.kept.Entry.{Entry}
+use Rattle.std.specs.Prelude.{Bool, true, false, List, [], ◌∷◌, ℕ, ◌+◌, eqb, get_or, Option, None, Some}
 use Rattle.basis.specs.Choice.{pick}
 use Rattle.basis.specs.Sums.{sum}
 use Rattle.basis.specs.Tables.{tab}
 use Rattle.quantities.specs.Limits.{units, producers, consumers}
-use Rattle.state.specs.declared.kept.Enrolment.{Enrolment}
-use Rattle.state.specs.declared.kept.Enrolment.TheVariants.{Vacant, Enrolled}
 use Rattle.state.specs.declared.kept.Unit.{Unit}
 use Rattle.state.specs.declared.kept.Declaration.{Declaration}
 use Rattle.state.specs.declared.kept.Declaration.TheVariants.{Undeclared, Declared}
@@ -15,9 +14,9 @@ use Rattle.fix.specs.Fix.{producer_by}
 use Rattle.text.specs.Text.{less, plain, line_of, joined}
 
 -- "U: enrolled unit, offer, efficient offer."
-unfoldable pub unit_line : ℕ → Enrolment → ℕ → ℕ → List ℕ
-unit_line number Vacant offer efficient = []
-unit_line number (Enrolled e) offer efficient = line_of 85 (plain number ∷ plain offer ∷ plain efficient ∷ [])
+unfoldable pub unit_line : ℕ → Option Entry → ℕ → ℕ → List ℕ
+unit_line number None offer efficient = []
+unit_line number (Some e) offer efficient = line_of 85 (plain number ∷ plain offer ∷ plain efficient ∷ [])
 
 abbrev pub unit_line_at : List Unit → List ℕ → List ℕ → ℕ → List ℕ
 unit_line_at us offers efficient i =

@@ -1,110 +1,79 @@
 // The lines of consumers.
-ghost use Rattle.std.specs.Prelude.{◌+◌, ◌*◌, ◌≤◌, length};
-ghost use Rattle.quantities.specs.Limits.{consumers as consumer_count};
-ghost use Rattle.text.specs.Text.{Puts, line_most};
+ghost use Rattle.std.specs.Prelude.{◌≡◌};
 ghost use Rattle.letters.specs.Letters.{demand_line, demand_lines, settlement_line, settlement_lines};
 
 use quantities::CONSUMERS;
-use state::{Consumer, Declaration};
-use text::{Amount, Line, numbers, put_line, unsigned};
+use state::{CloseFigures, Consumer, Declaration};
+use text::{Amount, LONGEST_LINE, Text, line};
+
+// The most bytes of a line for each consumer.
+pub const LONGEST_BY_CONSUMER: usize = CONSUMERS * LONGEST_LINE;
 
 // The line D of a consumer, none where it is not declared.
-pub(crate) fn put_demand(
-    out: &mut [u8],
-    at: usize,
-    number: usize,
-    declaration: Declaration,
-) -> usize
-    requires { at + line_most ≤ length out.old }
-    ensures { Puts line_most (demand_line number declaration) out.old at result out.new }
+#[tactic(auto, unfolding(crate::specs::Letters::demand_line))]
+fn demand_line(number: u64, declaration: Declaration) -> Text<LONGEST_LINE>
+    ensures { result ≡ demand_line number declaration }
 {
     match declaration {
-        Declaration::Undeclared => at,
-        Declaration::Declared(figures) => {
-            let df = figures.df;
-            put_line(out, at, numbers(b'D', 2, number as u64, df as u64, 0))
-        }
+        Declaration::Undeclared => Text::new(),
+        Declaration::Declared(figures) => line(
+            b'D',
+            &[number.into(), u64::from(figures.df).into()],
+        ),
     }
 }
 
 // The lines D of all consumers.
-pub fn put_demands(out: &mut [u8], at: usize, consumers: [Consumer; CONSUMERS]) -> usize
-    requires { at + consumer_count * line_most ≤ length out.old }
-    ensures { Puts (consumer_count * line_most) (demand_lines consumers) out.old at result out.new }
+#[tactic(auto, unfolding(crate::specs::Letters::demand_lines))]
+pub fn demand_lines(consumers: &[Consumer; CONSUMERS]) -> Text<LONGEST_BY_CONSUMER>
+    ensures { result ≡ demand_lines consumers.now }
 {
-    let mut place = at;
-    let mut i = 0;
-    while i < CONSUMERS {
-        let consumer = consumers[i];
-        let declaration = consumer.declaration;
-        place = put_demand(out, place, i + 1, declaration);
-        i += 1;
-    }
-    place
+    Text::join(
+        CONSUMERS,
+        |i| demand_line(i as u64 + 1, consumers[i].declaration),
+    )
 }
 
 // The line S of a consumer, none where it is not declared.
-pub(crate) fn put_settlement(
-    out: &mut [u8],
-    at: usize,
-    number: usize,
+#[tactic(auto, unfolding(crate::specs::Letters::settlement_line))]
+fn settlement_line(
+    number: u64,
     declaration: Declaration,
     adjusted: u32,
     charge: u64,
     credit: u64,
-) -> usize
-    requires { at + line_most ≤ length out.old }
-    ensures { Puts line_most (settlement_line number declaration adjusted charge credit) out.old at result out.new }
+) -> Text<LONGEST_LINE>
+    ensures { result ≡ settlement_line number declaration adjusted charge credit }
 {
-    match declaration {
-        Declaration::Undeclared => at,
-        Declaration::Declared(figures) => {
-            let df = figures.df;
-            let adjustment = Amount {
-                plus: df as u64,
-                minus: adjusted as u64,
-            };
-            let cents = Amount {
-                plus: credit,
-                minus: charge,
-            };
-            let line = Line {
-                letter: b'S',
-                count: 3,
-                amounts: [unsigned(number as u64), adjustment, cents],
-            };
-            put_line(out, at, line)
-        }
-    }
+    let Declaration::Declared(figures) = declaration else {
+        return Text::new();
+    };
+    let adjustment = Amount {
+        plus: figures.df.into(),
+        minus: adjusted.into(),
+    };
+    let cents = Amount {
+        plus: credit,
+        minus: charge,
+    };
+    line(b'S', &[number.into(), adjustment, cents])
 }
 
 // The lines S of all consumers.
-pub fn put_settlements(
-    out: &mut [u8],
-    at: usize,
-    consumers: [Consumer; CONSUMERS],
-    adjusted: [u32; CONSUMERS],
-    charges: [u64; CONSUMERS],
-    credits: [u64; CONSUMERS],
-) -> usize
-    requires { at + consumer_count * line_most ≤ length out.old }
-    ensures { Puts (consumer_count * line_most) (settlement_lines consumers adjusted charges credits) out.old at result out.new }
+#[tactic(auto, unfolding(crate::specs::Letters::settlement_lines))]
+pub fn settlement_lines(
+    consumers: &[Consumer; CONSUMERS],
+    closing: &CloseFigures,
+) -> Text<LONGEST_BY_CONSUMER>
+    ensures { result ≡ settlement_lines consumers.now closing.now.adjusted closing.now.charges closing.now.credits }
 {
-    let mut place = at;
-    let mut i = 0;
-    while i < CONSUMERS {
-        let consumer = consumers[i];
-        let declaration = consumer.declaration;
-        place = put_settlement(
-            out,
-            place,
-            i + 1,
-            declaration,
-            adjusted[i],
-            charges[i],
-            credits[i],
-        );
-        i += 1;
-    }
-    place
+    Text::join(CONSUMERS, |i| {
+        settlement_line(
+            i as u64 + 1,
+            consumers[i].declaration,
+            closing.adjusted[i],
+            closing.charges[i],
+            closing.credits[i],
+        )
+    })
 }

@@ -1,69 +1,47 @@
 // The lines of producers.
-ghost use Rattle.std.specs.Prelude.{◌≡◌, ◌+◌, ◌*◌, ◌≤◌, length};
-ghost use Rattle.quantities.specs.Limits.{producers as producer_count};
-ghost use Rattle.text.specs.Text.{Puts, line_most};
-ghost use Rattle.letters.specs.Letters.{owns, producer_line, producer_lines};
+ghost use Rattle.std.specs.Prelude.{◌≡◌};
+ghost use Rattle.letters.specs.Letters.{owners_of, producer_line, producer_lines};
 
+use crate::units::has_unit;
 use decision::producer_balance;
 use quantities::{PRODUCERS, UNITS};
-use state::CELLS;
-use text::{numbers, put_line};
+use state::{CELLS, Unit};
+use text::{LONGEST_LINE, Text, line};
 
-// Whether the producer has a unit.
-pub(crate) fn has_unit(owners: &[u32], producer: u32) -> bool
-    ensures { result ≡ owns owners.now producer }
-{
-    let mut i = 0;
-    while i < owners.len() {
-        if owners[i] == producer {
-            return true;
-        }
-        i += 1;
-    }
-    false
-}
+// The most bytes of a line for each producer.
+pub const LONGEST_BY_PRODUCER: usize = PRODUCERS * LONGEST_LINE;
 
 // The line P of a producer, none where it has no unit.
-pub(crate) fn put_producer(
-    out: &mut [u8],
-    at: usize,
-    number: usize,
-    owner: bool,
-    limit: u32,
-    balance: u64,
-) -> usize
-    requires { at + line_most ≤ length out.old }
-    ensures { Puts line_most (producer_line number owner limit balance) out.old at result out.new }
+#[tactic(auto, unfolding(crate::specs::Letters::producer_line))]
+fn producer_line(number: u64, owner: bool, limit: u32, balance: u64) -> Text<LONGEST_LINE>
+    ensures { result ≡ producer_line number owner limit balance }
 {
-    if !owner {
-        return at;
+    if owner {
+        line(
+            b'P',
+            &[number.into(), u64::from(limit).into(), balance.into()],
+        )
+    } else {
+        Text::new()
     }
-    put_line(
-        out,
-        at,
-        numbers(b'P', 3, number as u64, limit as u64, balance),
-    )
 }
 
 // The lines P of all producers.
-pub fn put_producers(
-    out: &mut [u8],
-    at: usize,
-    owners: [u32; UNITS],
-    limits: [u32; PRODUCERS],
-    balances: [u32; CELLS],
-) -> usize
-    requires { at + producer_count * line_most ≤ length out.old }
-    ensures { Puts (producer_count * line_most) (producer_lines owners limits balances) out.old at result out.new }
+#[tactic(auto, unfolding(crate::specs::Letters::producer_lines))]
+pub fn producer_lines(
+    units: &[Unit; UNITS],
+    limits: &[u32; PRODUCERS],
+    balances: &[u32; CELLS],
+) -> Text<LONGEST_BY_PRODUCER>
+    ensures { result ≡ producer_lines (owners_of units.now) limits.now balances.now }
 {
-    let mut place = at;
-    let mut i = 0;
-    while i < PRODUCERS {
+    Text::join(PRODUCERS, |i| {
         let producer = i as u32 + 1;
-        let owner = has_unit(&owners, producer);
-        let balance = producer_balance(&balances, producer);
-        place = put_producer(out, place, i + 1, owner, limits[i], balance);
-        i += 1;
-    }
-    place
+        producer_line(
+            i as u64 + 1,
+            has_unit(units, producer),
+            limits[i],
+            producer_balance(balances, producer),
+        )
+    })
 }

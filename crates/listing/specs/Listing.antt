@@ -8,7 +8,7 @@ use Rattle.state.specs.declared.kept.Stage.TheVariants.{Blank, Gathering, Firm, 
 use Rattle.state.specs.declared.kept.Book.{Book}
 use Rattle.journal.specs.declared.outcome.Run.{Run}
 use Rattle.journal.specs.Run.{run_of}
-use Rattle.listing.specs.declared.Listed.{Listed}
+use Rattle.quantities.specs.Refusals.{Filled, filled_with}
 use Rattle.text.specs.Text.{line_most, line_of, plain}
 use Rattle.letters.specs.Letters.{unit_lines, owners_of, producer_lines, demand_lines, settlement_lines}
 
@@ -57,18 +57,15 @@ abbrev pub listing_most : ℕ
 listing_most = (units + producers + 2 * consumers + 2) * line_most
 
 -- number 15 where the buffer is shorter than the text; else 0 and the bytes of the text
-abbrev pub listed : ℕ → ℕ → Listed
-listed number size = record { number = number; size = size }
-
-unfoldable pub listed_of : List ℕ → ℕ → Listed
-listed_of text room = pick (ltb room (length text)) (listed 15 0) (listed 0 (length text))
+unfoldable pub listed_of : List ℕ → ℕ → Filled
+listed_of text room = pick (ltb room (length text)) (filled_with 15 0) (filled_with 0 (length text))
 
 -- the buffer afterwards: as it was, or with the text over its front
 unfoldable pub listed_in : List ℕ → List ℕ → List ℕ
 listed_in text old = pick (ltb (length old) (length text)) old (written old 0 text)
 
 -- what putting a listing answers and leaves in the buffer; no listing is longer than the bound
-pub record Lists (text old : List ℕ) (r : Listed) (new : List ℕ) : Type 0 where
+pub record Lists (text old : List ℕ) (r : Filled) (new : List ℕ) : Type 0 where
   pub answer : r ≡ listed_of text (length old)
   pub bytes : new ≡ listed_in text old
   pub short : length text ≤ listing_most

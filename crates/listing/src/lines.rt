@@ -1,87 +1,86 @@
 // The listing of a run, letter after letter.
-ghost use Rattle.std.specs.Prelude.{◌+◌, ◌≤◌, length};
-ghost use Rattle.text.specs.Text.{Puts};
-ghost use Rattle.listing.specs.Listing.{firm_lines, firm_most, closed_lines, closed_most, stage_lines, listing_of, listing_most};
+ghost use Rattle.std.specs.Prelude.{◌≡◌};
+ghost use Rattle.listing.specs.Listing.{firm_lines, closed_lines, stage_lines, listing_of};
 
 use journal::Run;
-use letters::{owners_of, put_demands, put_producers, put_settlements, put_units};
+use letters::{
+    LONGEST_BY_CONSUMER, LONGEST_BY_PRODUCER, LONGEST_BY_UNIT, demand_lines, producer_lines,
+    settlement_lines, unit_lines,
+};
 use state::{Book, Stage};
-use text::{numbers, put_line};
+use text::{LONGEST_LINE, Text, line};
+
+// The most bytes of the lines of the firm year, of those of a close, and of a listing, whatever the run.
+const LONGEST_FIRM: usize = LONGEST_BY_UNIT + LONGEST_BY_PRODUCER + LONGEST_BY_CONSUMER;
+
+const LONGEST_CLOSED: usize = LONGEST_BY_CONSUMER + LONGEST_LINE;
+
+const LONGEST_STAGE: usize = LONGEST_FIRM + LONGEST_CLOSED;
+
+pub const LONGEST: usize = LONGEST_STAGE + LONGEST_LINE;
 
 // U, P and D.
-pub(crate) fn put_firm(out: &mut [u8], at: usize, book: Book) -> usize
-    requires { at + firm_most ≤ length out.old }
-    ensures { Puts firm_most (firm_lines book) out.old at result out.new }
+#[tactic(auto, unfolding(crate::specs::Listing::firm_lines))]
+fn firm_lines(book: &Book) -> Text<LONGEST_FIRM>
+    ensures { result ≡ firm_lines book.now }
 {
-    let units = book.units;
-    let offers = book.offers;
-    let efficient = book.efficient;
-    let limits = book.limits;
-    let balances = book.balances;
-    let consumers = book.consumers;
-    let producers = put_units(out, at, units, offers, efficient);
-    let owners = owners_of(units);
-    let demands = put_producers(out, producers, owners, limits, balances);
-    put_demands(out, demands, consumers)
+    let mut lines = Text::new();
+    lines.push_text(&unit_lines(&book.units, &book.offers, &book.efficient));
+    lines.push_text(&producer_lines(&book.units, &book.limits, &book.balances));
+    lines.push_text(&demand_lines(&book.consumers));
+    lines
 }
 
 // S and T.
-pub(crate) fn put_closed(out: &mut [u8], at: usize, book: Book) -> usize
-    requires { at + closed_most ≤ length out.old }
-    ensures { Puts closed_most (closed_lines book) out.old at result out.new }
+#[tactic(auto, unfolding(crate::specs::Listing::closed_lines))]
+fn closed_lines(book: &Book) -> Text<LONGEST_CLOSED>
+    ensures { result ≡ closed_lines book.now }
 {
-    let consumers = book.consumers;
-    let closing = book.closing;
-    let adjusted = closing.adjusted;
-    let charges = closing.charges;
-    let credits = closing.credits;
-    let totals = put_settlements(out, at, consumers, adjusted, charges, credits);
-    put_line(
-        out,
-        totals,
-        numbers(
-            b'T',
-            3,
-            closing.charged,
-            closing.credited,
-            closing.undistributed,
-        ),
-    )
+    let closing = &book.closing;
+    let mut lines = Text::new();
+    lines.push_text(&settlement_lines(&book.consumers, closing));
+    lines.push_text(&line(
+        b'T',
+        &[
+            closing.charged.into(),
+            closing.credited.into(),
+            closing.undistributed.into(),
+        ],
+    ));
+    lines
 }
 
 // The lines that the book's stage has.
-pub(crate) fn put_stage(out: &mut [u8], at: usize, book: Book) -> usize
-    requires { at + (firm_most + closed_most) ≤ length out.old }
-    ensures { Puts (firm_most + closed_most) (stage_lines book.stage book) out.old at result out.new }
+#[tactic(auto, unfolding(crate::specs::Listing::stage_lines))]
+fn stage_lines(book: &Book) -> Text<LONGEST_STAGE>
+    ensures { result ≡ stage_lines book.now.stage book.now }
 {
-    let stage = book.stage;
-    match stage {
-        Stage::Blank => at,
-        Stage::Gathering => at,
-        Stage::Firm => put_firm(out, at, book),
+    let mut lines = Text::new();
+    match book.stage {
+        Stage::Blank | Stage::Gathering => {}
+        Stage::Firm => lines.push_text(&firm_lines(book)),
         Stage::Closed => {
-            let settlements = put_firm(out, at, book);
-            put_closed(out, settlements, book)
+            lines.push_text(&firm_lines(book));
+            lines.push_text(&closed_lines(book));
         }
     }
+    lines
 }
 
 // The whole listing.
-pub(crate) fn put_run(out: &mut [u8], run: Run) -> usize
-    requires { listing_most ≤ length out.old }
-    ensures { Puts listing_most (listing_of run) out.old 0 result out.new }
+#[tactic(auto, unfolding(crate::specs::Listing::listing_of))]
+pub fn listing(run: &Run) -> Text<LONGEST>
+    ensures { result ≡ listing_of run.now }
 {
-    let book = run.book;
-    let counts = put_stage(out, 0, book);
-    put_line(
-        out,
-        counts,
-        numbers(
-            b'R',
-            3,
-            run.read as u64,
-            run.accepted as u64,
-            run.refused as u64,
-        ),
-    )
+    let mut listing = Text::new();
+    listing.push_text(&stage_lines(&run.book));
+    listing.push_text(&line(
+        b'R',
+        &[
+            (run.read as u64).into(),
+            (run.accepted as u64).into(),
+            (run.refused as u64).into(),
+        ],
+    ));
+    listing
 }

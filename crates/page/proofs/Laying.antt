@@ -91,27 +91,13 @@ pages_more lines line =
     ∙ ap (λ n. pages_of lines ++ laid n (line ∷ [])) (zero-add (length lines))
     ∙ ap (λ (l : List ℕ). pages_of lines ++ l) (append-nil (heading_behind (length lines) ++ line))
 
--- the lengths of a heading, a line and the rest
-above : (whole first rest head line before after end : ℕ) → whole ≡ first + rest → first ≡ head + line → rest + after ≡ end → head + (line + before) ≡ after → whole + before ≡ end
-above whole first rest head line before after end a b c d = omega arith
-
 -- the bytes of lines that are all as long
 module _ (f : ℕ → List ℕ) (long : (c : ℕ) → length (f c) ≡ line_length) where
   laid_length : (j : ℕ) (numbers : List ℕ) → length (laid j (map f numbers)) + bytes_for j ≡ bytes_for (j + length numbers)
   unfolding laid
-  laid_length j [] = zero-add (bytes_for j) ∙ ap bytes_for (sym (add-zero j))
+  laid_length j [] = omega arith
   laid_length j (c ∷ numbers) =
-      let rest = laid (suc j) (map f numbers) in
-      let n : suc j + length numbers ≡ j + suc (length numbers) = omega arith in
-      above (length ((heading_behind j ++ f c) ++ rest)) (length (heading_behind j ++ f c)) (length rest) (length (heading_behind j)) line_length (bytes_for j) (bytes_for (suc j)) (bytes_for (j + suc (length numbers)))
-      (length-append (heading_behind j ++ f c) rest)
-      (length-append (heading_behind j) (f c) ∙ ap (λ m. length (heading_behind j) + m) (long c))
-      (laid_length (suc j) numbers ∙ ap bytes_for n)
-      (one_more j ∙ ap bytes_for (add-one j))
+      omega (arith, length-append (heading_behind j ++ f c) (laid (suc j) (map f numbers)), length-append (heading_behind j) (f c), long c, laid_length (suc j) numbers, one_more j)
 
   pub pages-length : (numbers : List ℕ) → length (pages_of (map f numbers)) ≡ bytes_for (length numbers)
-  pages-length numbers =
-      ap length (as_laid (map f numbers))
-      ∙ sym (add-zero (length (laid 0 (map f numbers))))
-      ∙ laid_length 0 numbers
-      ∙ ap bytes_for (zero-add (length numbers))
+  pages-length numbers = omega (arith, ap length (as_laid (map f numbers)), laid_length 0 numbers)

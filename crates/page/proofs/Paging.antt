@@ -5,7 +5,7 @@ use Prim.Native.Nat.{ℕ, zero, suc, ◌+◌, ◌-◌, ◌*◌, ◌≤◌}
 use native.Mathlib.Omega.{arith}
 use lib.ListN.{length, take, drop, length-drop}
 use lib.Seq.{take_all, length-take-le, drop-drop}
-use Rattle.text.specs.Text.{bytes, amount_of, decimal, digits, joined, joined_from}
+use Rattle.text.specs.Text.{amount_of, decimal, digits, joined, joined_from}
 use Rattle.text.specs.Columns.{column}
 use Rattle.page.specs.Page.{line_with, heading_with, flat, page, page_lines, page_count, pages_from, pages_of}
 use Rattle.page.specs.Promises.{lines_on, AlwaysPaged, CaseJ}
@@ -54,5 +54,5 @@ always_paged lines =
     }
 
 pub case_j : CaseJ
-unfolding pages_of pages_from page flat heading_with line_with column amount_of decimal digits bytes
+unfolding pages_of pages_from page flat heading_with line_with column amount_of decimal digits
 case_j = refl

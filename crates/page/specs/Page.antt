@@ -1,18 +1,18 @@
 -- The printed close on 36 columns (document 02, A1), in the order of its sentences.
-use Rattle.std.specs.Prelude.{◌≡◌, List, [], ◌∷◌, ◌++◌, map, ℕ, zero, suc, ◌+◌, ◌-◌, ◌*◌, ◌/◌, ◌%◌, ◌≤◌, eqb, ltb, length, get_or, take, drop}
+use Rattle.std.specs.Prelude.{◌≡◌, List, [], ◌∷◌, ◌++◌, map, ℕ, zero, suc, ◌+◌, ◌-◌, ◌*◌, ◌/◌, ◌%◌, ◌≤◌, eqb, ltb, length, get_or, take, drop, codes}
 use Rattle.basis.specs.Choice.{pick}
 use Rattle.basis.specs.Numbers.{written}
-use Rattle.text.specs.declared.Amount.{Amount}
-use Rattle.text.specs.Text.{bytes, less, plain, amount_of, joined}
+use Rattle.text.specs.declared.amounts.Amount.{Amount}
+use Rattle.text.specs.Text.{less, plain, amount_of, joined}
 use Rattle.text.specs.Columns.{blanks, column}
 use Rattle.quantities.specs.Limits.{consumers}
+use Rattle.quantities.specs.Refusals.{Filled, filled_with}
 use Rattle.state.specs.declared.kept.Stage.TheVariants.{Closed}
 use Rattle.state.specs.declared.kept.Declaration.{Declaration}
 use Rattle.state.specs.declared.kept.Declaration.TheVariants.{Undeclared, Declared}
 use Rattle.state.specs.declared.kept.Consumer.{Consumer}
 use Rattle.state.specs.declared.kept.Book.{Book}
 use Rattle.state.specs.State.{fresh_consumer, consumer_at, firm_demand_by, staged}
-use Rattle.page.specs.declared.Printed.{Printed}
 
 -- "one line per declared consumer, ascending": the declared consumers by their numbers
 abbrev pub number_if : ℕ → Declaration → List ℕ
@@ -48,7 +48,7 @@ lines_of xs adjusted charges credits = map (line_for xs adjusted charges credits
 
 -- "Each page has a heading line first: PAGE, a blank, the page number in 4 columns right-aligned, then blanks to column 36. .. The heading ends with a line feed too."
 unfoldable pub heading_with : (ℕ → List ℕ → List ℕ) → ℕ → List ℕ
-heading_with aligned number = bytes "PAGE " ++ (aligned 4 (amount_of (plain number)) ++ (blanks 27 ++ (10 ∷ [])))
+heading_with aligned number = codes "PAGE " ++ (aligned 4 (amount_of (plain number)) ++ (blanks 27 ++ (10 ∷ [])))
 
 abbrev pub heading : ℕ → List ℕ
 heading = heading_with column
@@ -95,13 +95,10 @@ unfoldable pub print_number : Book → ℕ → ℕ
 print_number b room = staged Closed b.stage (pick (ltb room (length (text_of b))) 15 0)
 
 -- 0 and the bytes of the text; a refusal tells no length
-abbrev pub printed : ℕ → ℕ → Printed
-printed number size = record { number = number; size = size }
+abbrev pub printed_by : ℕ → List ℕ → Filled
+printed_by number text = filled_with number (pick (eqb number 0) (length text) 0)
 
-abbrev pub printed_by : ℕ → List ℕ → Printed
-printed_by number text = printed number (pick (eqb number 0) (length text) 0)
-
-unfoldable pub printed_of : Book → ℕ → Printed
+unfoldable pub printed_of : Book → ℕ → Filled
 printed_of b room = printed_by (print_number b room) (text_of b)
 
 -- the buffer afterwards: as it was, or with the text over its front
@@ -109,7 +106,7 @@ unfoldable pub printed_in : Book → List ℕ → List ℕ
 printed_in b old = pick (eqb (print_number b (length old)) 0) (written old 0 (text_of b)) old
 
 -- what printing answers and leaves in the buffer; no text is longer than the bound
-pub record Prints (b : Book) (old : List ℕ) (r : Printed) (new : List ℕ) : Type 0 where
+pub record Prints (b : Book) (old : List ℕ) (r : Filled) (new : List ℕ) : Type 0 where
   pub answer : r ≡ printed_of b (length old)
   pub bytes_left : new ≡ printed_in b old
   pub short : length (text_of b) ≤ printed_most
@@ -117,8 +114,3 @@ pub record Prints (b : Book) (old : List ℕ) (r : Printed) (new : List ℕ) : T
 -- the heading behind so many lines, where a page begins there: a step of the program
 unfoldable pub heading_behind : ℕ → List ℕ
 heading_behind lines = pick (eqb (lines % page_lines) 0) (heading (lines / page_lines + 1)) []
-
--- what a consumer adds behind so many lines: a step of the program
-unfoldable pub added_behind : ℕ → ℕ → Declaration → ℕ → ℕ → ℕ → List ℕ
-added_behind lines number Undeclared dfa charge credit = []
-added_behind lines number (Declared f) dfa charge credit = heading_behind lines ++ line_of number f.df dfa charge credit

@@ -1,6 +1,6 @@
 -- What is promised of the pages, beyond their own definition.
-use Rattle.std.specs.Prelude.{◌≡◌, List, [], ◌∷◌, ◌++◌, ℕ, suc, ◌+◌, ◌*◌, ◌≤◌, ◌<◌, length, take, drop}
-use Rattle.text.specs.Text.{bytes, joined}
+use Rattle.std.specs.Prelude.{◌≡◌, List, [], ◌∷◌, ◌++◌, ℕ, suc, ◌+◌, ◌*◌, ◌≤◌, ◌<◌, length, take, drop, codes}
+use Rattle.text.specs.Text.{joined}
 use Rattle.page.specs.Page.{line_of, page, page_lines, page_count, pages_of}
 
 -- the lines of a page, pages counted from 0
@@ -23,7 +23,7 @@ AlwaysPaged = (lines : List (List ℕ)) → Paged lines
 abbrev pub CaseJ : Type 0
 CaseJ =
     pages_of (line_of 1 3334 3000 0 7123560 ∷ line_of 2 3333 4000 7123560 0 ∷ line_of 3 3333 3333 0 0 ∷ [])
-    ≡ bytes "PAGE    1                           \n"
-    ++ (bytes "  1    3334      334         7123560\n"
-    ++ (bytes "  2    3333     -667        -7123560\n"
-    ++ bytes "  3    3333        0               0\n"))
+    ≡ codes "PAGE    1                           \n"
+    ++ (codes "  1    3334      334         7123560\n"
+    ++ (codes "  2    3333     -667        -7123560\n"
+    ++ codes "  3    3333        0               0\n"))

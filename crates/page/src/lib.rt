@@ -3,51 +3,26 @@
 
 mod lines; // lines.rt: a heading and a line
 mod pages; // pages.rt: all lines with their headings, and where they stand
+mod promises; // promises.rt: theorems about the pages
 
-ghost use Rattle.std.specs.Prelude.{◌≡◌, ltb};
-ghost use Rattle.basis.specs.Choice.{pick};
-ghost use Rattle.state.specs.declared.kept.Stage.TheVariants.{Closed};
-ghost use Rattle.state.specs.State.{staged};
+ghost use Rattle.quantities.specs.Refusals.{filled};
 ghost use Rattle.page.specs.Page.{Prints};
 
 use pages::{count_declared, put_lines, size_of};
-use state::{Book, CLOSED, Stage, stage_number};
+pub use promises::{always_paged, case_j};
+use quantities::Refusal;
+use state::{Book, Stage, check_stage};
 
-// 4 where the book is not closed, 15 where the buffer is shorter than the text, else 0 and the bytes of the text.
-#[derive(Clone, Copy)]
-pub struct Printed {
-    pub number: u32,
-    pub size: usize,
-}
-
-// 4 where the book is not closed, 15 where there is no room for so many bytes, else 0.
-fn print_number(stage: Stage, size: usize, room: usize) -> u32
-    ensures { result ≡ staged Closed stage (pick (ltb room size) 15 0) }
+// The printed close of a book over the front of out: its bytes, or 4 where the book is not closed, 15 where out is shorter than the text.
+#[tactic(auto, using(crate::proofs::Answers::text_laws), unfolding(crate::specs::Page::print_number, crate::specs::Page::printed_of, crate::specs::Page::printed_in))]
+pub fn put_page(book: Book, out: &mut [u8]) -> Result<usize, Refusal>
+    ensures { Prints book out.old (filled result) out.new }
 {
-    if stage_number(stage) != CLOSED {
-        return 4;
+    check_stage(book.stage, Stage::Closed)?;
+    let size = size_of(count_declared(&book.consumers));
+    if out.len() < size {
+        return Err(Refusal::ShortBuffer);
     }
-    if room < size {
-        return 15;
-    }
-    0
-}
-
-// The printed close of a book over the front of out.
-pub fn put_page(book: Book, out: &mut [u8]) -> Printed
-    ensures { Prints book out.old result out.new }
-{
-    let stage = book.stage;
-    let consumers = book.consumers;
-    let closing = book.closing;
-    let adjusted = closing.adjusted;
-    let charges = closing.charges;
-    let credits = closing.credits;
-    let size = size_of(count_declared(consumers));
-    let number = print_number(stage, size, out.len());
-    if number != 0 {
-        return Printed { number, size: 0 };
-    }
-    put_lines(out, consumers, adjusted, charges, credits);
-    Printed { number: 0, size }
+    put_lines(&book.consumers, &book.closing, out);
+    Ok(size)
 }

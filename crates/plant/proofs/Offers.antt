@@ -1,5 +1,5 @@
 -- A firm offer is at most the maximum power of component 0, whatever the kind.
-use mathlib.Core.Path.{◌≡◌, refl, sym, ap}
+use mathlib.Core.Path.{◌≡◌, refl, sym}
 use mathlib.Core.Bool.{Bool, true, false}
 use mathlib.Core.List.{List, [], ◌∷◌}
 use Prim.Native.Nat.{ℕ, zero, suc, ◌≤◌, ◌<◌, zero-le}
@@ -10,7 +10,7 @@ use Rattle.basis.specs.Choice.{pick}
 use Rattle.quantities.specs.Limits.{greatest_kind}
 use Rattle.power.specs.declared.quantity.Kw.{Kw}
 use Rattle.power.specs.declared.component.Component.{Component}
-use Rattle.plant.specs.declared.offer.Hours.{Hours}
+use Rattle.power.specs.declared.component.Hours.{Hours}
 use Rattle.plant.specs.declared.offer.Plant.{Plant}
 use Rattle.power.specs.Quantity.{kw, least, over_hours}
 use Rattle.power.specs.Power.{maximum_power}
@@ -19,11 +19,6 @@ use Rattle.plant.specs.Promises.{OfferAtMostMaximum}
 use Rattle.plant.proofs.Coefficient.{times_c_at_most}
 
 module _ (p : Plant) (h : Hours) (set generator storage : Component) where
-  -- the offer of a kind is its row
-  pub offer_of_kind : (k : ℕ) → p.kind ≡ k → get_or (offers_by_kind p h set generator storage) k (kw 0) ≡ firm_offer p h set generator storage
-  unfolding firm_offer
-  offer_of_kind k e = ap (λ n. get_or (offers_by_kind p h set generator storage) n (kw 0)) (sym e)
-
   -- there is none in front of kind 1 and behind kind 8
   pub offer_of_no_kind : (0 < p.kind → greatest_kind < p.kind) → kw 0 ≡ firm_offer p h set generator storage
   unfolding firm_offer

@@ -1,36 +1,30 @@
--- The efficient offers: an efficient offer is the offer or 0.
-use mathlib.Core.Path.{◌≡◌, refl}
-use mathlib.Core.Bool.{Bool, true, false}
-use mathlib.Core.Logic.{◌⊎◌, inl, inr}
+-- The efficient offers: the sum of a year, and the efficient offer of each unit.
+use Rattle.std.proofs.Common.{arith}
+use Rattle.std.specs.List.{sum_by, zip}
+use Rattle.std.proofs.lemmas.Slice.Zip.{get_or-zip, length-zip}
+use mathlib.Core.Path.{◌≡◌, ap, ◌∙◌}
 use mathlib.Core.List.{List}
-use Prim.Native.Nat.{ℕ, ◌+◌, ◌≤◌, ◌<◌, zero-le}
-use native.Mathlib.Nat.{le_refl}
-use lib.ListN.{get_or}
-use Rattle.basis.specs.Choice.{pick}
-use Rattle.basis.proofs.Sums.{sum_up_more}
+use Prim.Native.Nat.{ℕ, ◌≤◌, ◌<◌}
+use Rattle.std.proofs.lemmas.Bool.Decides.{nat_tests}
+use lib.ListN.{length, get_or}
+use Rattle.basis.specs.Sums.{sum_up}
+use Rattle.basis.proofs.Sums.{sum_by_places, sum_up_same}
 use Rattle.basis.proofs.Tables.{get_or-tab}
-use Rattle.quantities.specs.Flags.{flagged, forced_generation}
 use Rattle.plant.specs.Efficient.{counted, year_sum, efficient_offer, efficient_offers}
-use Rattle.plant.specs.Promises.{EfficientOrNone}
 
--- one unit more in a year's sum
-pub year-sum_more : (n year : ℕ) (flags offers : List ℕ) → year_sum (n + 1) year flags offers ≡ year_sum n year flags offers + counted year (get_or flags n 0) (get_or offers n 0)
+-- a year's sum, over the pairs of a unit's flags and its offer
+pub year_sum_of_pairs : (n year : ℕ) (flags offers : List ℕ) → length flags ≡ n → length offers ≡ n → sum_by (λ p. counted year p.0 p.1) (zip flags offers) ≡ year_sum n year flags offers
 unfolding year_sum
-year-sum_more n year flags offers = sum_up_more (λ i. counted year (get_or flags i 0) (get_or offers i 0)) n
-
-either : (t : Bool) (x : ℕ) → (pick t x 0 ≡ x) ⊎ (pick t x 0 ≡ 0)
-either true x = inl refl
-either false x = inr refl
-
-below : (t : Bool) (x : ℕ) → pick t x 0 ≤ x
-below true x = le_refl x
-below false x = zero-le
-
-pub efficient_or_none : EfficientOrNone
-efficient_or_none year flags offer = either (pick (flagged year flags) true (flagged forced_generation flags)) offer
+year_sum_of_pairs n year flags offers h k =
+    let pairs : List (ℕ × ℕ) = zip flags offers in
+    let long : length pairs ≡ n = omega (arith, length-zip flags offers) in
+    sum_by_places (λ p. counted year p.0 p.1) pairs (0, 0)
+    ∙ ap (sum_up (λ i. counted year (get_or pairs i (0, 0)).0 (get_or pairs i (0, 0)).1)) long
+    ∙ sum_up_same (λ i. counted year (get_or pairs i (0, 0)).0 (get_or pairs i (0, 0)).1) (λ i. counted year (get_or flags i 0) (get_or offers i 0)) n
+    (λ i l. ap (λ (p : ℕ × ℕ). counted year p.0 p.1) (get_or-zip flags offers i (0, 0) (omega arith) (omega arith)))
 
 pub efficient_at_most_offer : (year flags offer : ℕ) → efficient_offer year flags offer ≤ offer
-efficient_at_most_offer year flags offer = below (pick (flagged year flags) true (flagged forced_generation flags)) offer
+efficient_at_most_offer year flags offer = grind (arith, nat_tests)
 
 module _ (n year : ℕ) (flags offers : List ℕ) where
   -- the efficient offer of each unit

@@ -1,14 +1,11 @@
 -- The coefficient of availability ("Availability", annex 2.1).
-use Rattle.std.specs.Prelude.{Bool, false, ℕ, ◌+◌, ◌-◌, ◌*◌, ◌/◌, leb, eqb}
+use Rattle.std.specs.Prelude.{Bool, false, ℕ, ◌+◌, ◌-◌, ◌*◌, ◌/◌, leb, eqb, Option, None, Some}
 use Rattle.basis.specs.Choice.{pick}
 use Rattle.power.specs.declared.quantity.Kw.{Kw}
-use Rattle.power.specs.declared.component.Availability.{Availability}
-use Rattle.power.specs.declared.component.Availability.TheVariants.{Unknown, Known}
 use Rattle.power.specs.declared.component.Minutes.{Minutes}
 use Rattle.power.specs.declared.component.Component.{Component}
-use Rattle.power.specs.declared.component.Answer.{Answer}
 use Rattle.power.specs.Quantity.{kw}
-use Rattle.power.specs.Power.{answer_of}
+use Rattle.power.specs.Power.{Answer, answer_of}
 use Rattle.quantities.specs.Limits.{greatest_minutes}
 use Rattle.power.specs.Ranges.{minutes_in_range}
 
@@ -37,14 +34,14 @@ availability_number m = pick (minutes_in_range m.hd m.hmp m.hif m.hed) (pick (mi
 unfoldable pub availability_of : Component → Minutes → Answer
 availability_of x m =
     answer_of (availability_number m) x
-    (record { result = x.result; void_trip = x.void_trip; availability = Known m })
+    (record { result = x.result; void_trip = x.void_trip; availability = Some m })
 
 -- an availability is held; minutes that are refused are none
-abbrev pub held : Availability → Bool
-held Unknown = false
-held (Known m) = eqb (availability_number m) 0
+abbrev pub held : Option Minutes → Bool
+held None = false
+held (Some m) = eqb (availability_number m) 0
 
 -- power times c, one product and one division; 0 without an availability
-unfoldable pub times_c : Kw → Availability → Kw
-times_c power Unknown = kw 0
-times_c power (Known m) = kw (pick (held (Known m)) (power.0 * ready_minutes m / whole_minutes m) 0)
+unfoldable pub times_c : Kw → Option Minutes → Kw
+times_c power None = kw 0
+times_c power (Some m) = kw (pick (held (Some m)) (power.0 * ready_minutes m / whole_minutes m) 0)

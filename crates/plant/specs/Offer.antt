@@ -1,11 +1,9 @@
 -- The firm offer of the eight kinds ("Firm offer", 2.1.1 to 2.1.7). What is missing makes it 0.
-use Rattle.std.specs.Prelude.{Bool, true, false, List, [], ◌∷◌, ℕ, min, ◌+◌, get_or}
+use Rattle.std.specs.Prelude.{Bool, true, false, List, [], ◌∷◌, ℕ, min, ◌+◌, get_or, Option, None, Some}
 use Rattle.basis.specs.Choice.{pick}
 use Rattle.power.specs.declared.quantity.Kw.{Kw}
-use Rattle.power.specs.declared.component.Measured.{Measured}
-use Rattle.power.specs.declared.component.Measured.TheVariants.{Nothing, Power}
 use Rattle.power.specs.declared.component.Component.{Component}
-use Rattle.plant.specs.declared.offer.Hours.{Hours}
+use Rattle.power.specs.declared.component.Hours.{Hours}
 use Rattle.plant.specs.declared.offer.Plant.{Plant}
 use Rattle.power.specs.Quantity.{kw, least, over_hours}
 use Rattle.power.specs.Power.{maximum_power}
@@ -16,9 +14,9 @@ abbrev pub available_power : Component → Kw
 available_power x = times_c (maximum_power x) x.availability
 
 -- a result is held
-abbrev pub has_result : Measured → Bool
-has_result Nothing = false
-has_result (Power p) = true
+abbrev pub has_result : Option Kw → Bool
+has_result None = false
+has_result (Some p) = true
 
 -- kind 1, thermal, with a supply report: PP·c
 abbrev pub thermal : Plant → Component → Kw

@@ -1,12 +1,10 @@
 -- What is promised of powers and offers, whatever the plant, its components and their tests.
-use Rattle.std.specs.Prelude.{◌≡◌, List, ◌⊎◌, ℕ, ◌≤◌}
+use Rattle.std.specs.Prelude.{◌≡◌, List, ◌⊎◌, ℕ, ◌≤◌, Option, Some}
 use Rattle.quantities.specs.Limits.{greatest_power}
 use Rattle.power.specs.declared.quantity.Kw.{Kw}
 use Rattle.power.specs.declared.component.Minutes.{Minutes}
-use Rattle.power.specs.declared.component.Cap.{Cap}
-use Rattle.power.specs.declared.component.Cap.TheVariants.{At}
 use Rattle.power.specs.declared.component.Component.{Component}
-use Rattle.plant.specs.declared.offer.Hours.{Hours}
+use Rattle.power.specs.declared.component.Hours.{Hours}
 use Rattle.plant.specs.declared.offer.Plant.{Plant}
 use Rattle.power.specs.Power.{maximum_power, test_of}
 use Rattle.plant.specs.Availability.{ready_minutes, whole_minutes}
@@ -18,12 +16,12 @@ abbrev pub TestWithinCap : Type 0
 TestWithinCap =
     (x : Component) (pic : Kw) (ending tc count : ℕ) (bytes : List ℕ) →
     (maximum_power x).0 ≤ pic.0 →
-    (maximum_power (test_of x (At pic) ending tc count bytes).component).0 ≤ pic.0
+    (maximum_power (test_of x (Some pic) ending tc count bytes).component).0 ≤ pic.0
 
 -- "A field of power is in whole kW, 0 to 3,000,000": a test leaves a maximum power in that range if it found one there
 abbrev pub TestWithinGreatest : Type 0
 TestWithinGreatest =
-    (x : Component) (cap : Cap) (ending tc count : ℕ) (bytes : List ℕ) →
+    (x : Component) (cap : Option Kw) (ending tc count : ℕ) (bytes : List ℕ) →
     (maximum_power x).0 ≤ greatest_power →
     (maximum_power (test_of x cap ending tc count bytes).component).0 ≤ greatest_power
 

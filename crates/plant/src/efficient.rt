@@ -4,6 +4,7 @@ ghost use Rattle.quantities.specs.Limits.{units};
 ghost use Rattle.plant.specs.Efficient.{counted, efficient_offer, year_sum, chosen_year, efficient_offers, efficient_of};
 
 use quantities::{FIRST_YEAR, FORCED_GENERATION, SECOND_YEAR, UNITS, is_flagged};
+use std::array;
 
 // The simulated year that was chosen, 1 or 2, and each unit's efficient offer in kW.
 #[derive(Clone, Copy)]
@@ -20,61 +21,52 @@ fn counted(year: u32, flags: u32, offer: u32) -> u32
 }
 
 // The sum of the offers of the units used in a year.
-fn year_sum(year: u32, flags: [u32; UNITS], offers: [u32; UNITS]) -> u64
-    ensures { result ≡ year_sum units year flags offers }
+fn year_sum(year: u32, flags: &[u32; UNITS], offers: &[u32; UNITS]) -> u64
+    ensures { result ≡ year_sum units year flags.now offers.now }
 {
-    let mut sum: u64 = 0;
-    let mut i = 0;
-    while i < UNITS {
-        sum += counted(year, flags[i], offers[i]) as u64;
-        i += 1;
-    }
-    sum
+    flags
+        .iter()
+        .zip(offers)
+        .map(|(flags, offer)| u64::from(counted(year, *flags, *offer)))
+        .sum()
 }
 
 // The year of the greater sum, of a tie the first.
-fn chosen_year(flags: [u32; UNITS], offers: [u32; UNITS]) -> u32
-    ensures { result ≡ chosen_year units flags offers }
+fn chosen_year(flags: &[u32; UNITS], offers: &[u32; UNITS]) -> u32
+    ensures { result ≡ chosen_year units flags.now offers.now }
 {
     if year_sum(FIRST_YEAR, flags, offers) < year_sum(SECOND_YEAR, flags, offers) {
-        return SECOND_YEAR;
+        SECOND_YEAR
+    } else {
+        FIRST_YEAR
     }
-    FIRST_YEAR
 }
 
 // A unit's offer, if it is used in the year or forced generation persists, else 0.
 fn efficient_offer(year: u32, flags: u32, offer: u32) -> u32
     ensures { result ≡ efficient_offer year flags offer }
 {
-    if is_flagged(year, flags) {
-        return offer;
+    if is_flagged(year, flags) || is_flagged(FORCED_GENERATION, flags) {
+        offer
+    } else {
+        0
     }
-    if is_flagged(FORCED_GENERATION, flags) {
-        return offer;
-    }
-    0
 }
 
 // The efficient offers once the year is chosen.
-fn offers_in(year: u32, flags: [u32; UNITS], offers: [u32; UNITS]) -> [u32; UNITS]
-    ensures { result ≡ efficient_offers units year flags offers }
+fn offers_in(year: u32, flags: &[u32; UNITS], offers: &[u32; UNITS]) -> [u32; UNITS]
+    ensures { result ≡ efficient_offers units year flags.now offers.now }
 {
-    let mut efficient = [0u32; UNITS];
-    let mut i = 0;
-    while i < UNITS {
-        efficient[i] = efficient_offer(year, flags[i], offers[i]);
-        i += 1;
-    }
-    efficient
+    array::from_fn(|i| efficient_offer(year, flags[i], offers[i]))
 }
 
-// The year chosen and the efficient offers, from each unit's flags and offer.
+// The year chosen and the efficient offers, from each unit's flags and offer: two arrays, since a caller holds them as two.
 pub fn efficient_offers(flags: [u32; UNITS], offers: [u32; UNITS]) -> Efficient
     ensures { result ≡ efficient_of units flags offers }
 {
-    let year = chosen_year(flags, offers);
+    let year = chosen_year(&flags, &offers);
     Efficient {
         year,
-        offers: offers_in(year, flags, offers),
+        offers: offers_in(year, &flags, &offers),
     }
 }

@@ -4,11 +4,16 @@
 mod availability; // availability.rt: the minutes of an availability, and power times c
 mod efficient; // efficient.rt: the efficient offers of all units
 mod offer; // offer.rt: the firm offer of the eight kinds
+mod promises; // promises.rt: theorems about powers and offers
 
 pub use availability::set_availability;
 pub use efficient::{Efficient, efficient_offers};
-pub use offer::{Hours, Plant, firm_offer};
+pub use offer::{Plant, firm_offer};
 pub use power::{
-    Answer, Availability, Cap, Component, Kw, Kwh, Measured, Minutes, fresh_component, least_count,
+    Component, Components, Hours, Kw, Kwh, Minutes, Trial, fresh_component, least_count,
     maximum_power, test,
+};
+pub use promises::{
+    efficient_or_none, offer_at_most_maximum, ready_at_most_whole, test_within_cap,
+    test_within_greatest,
 };

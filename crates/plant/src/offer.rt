@@ -1,19 +1,12 @@
 // The firm offer of the eight kinds of plant.
 ghost use Rattle.std.specs.Prelude.{◌≡◌};
-ghost use Rattle.plant.specs.Offer.{has_result, thermal, renewable, limited, regulated, stored, complete, together, with_storage, firm_offer};
+ghost use Rattle.plant.specs.Offer.{thermal, renewable, limited, regulated, stored, complete, together, with_storage, firm_offer};
 
 use crate::availability::{available_power, is_held, times_c};
-use power::{Component, Kw, Kwh, Measured, least, maximum_power, over_hours};
+use power::{Component, Components, Hours, Kw, Kwh, least, maximum_power, over_hours};
 
-// The hours of the stage of greatest thermal requirement, its hours of maximum demand, and those per day.
-#[derive(Clone, Copy)]
-pub struct Hours {
-    pub nhrm: u32,
-    pub nhmd: u32,
-    pub ndhmd: u32,
-}
-
-// A plant: its kind, whether it holds a supply report, guaranteed power, firm energies and storable energy.
+// A plant: its kind, whether it holds a supply report, guaranteed power, firm energies and storable energy. The kind is a number: firm_offer
+// takes any, and offers 0 where it is none of the eight.
 #[derive(Clone, Copy)]
 pub struct Plant {
     pub kind: u32,
@@ -39,11 +32,8 @@ fn thermal(plant: Plant, x: Component) -> Kw
 fn renewable(plant: Plant, x: Component) -> Kw
     ensures { result ≡ renewable plant x }
 {
-    let ppr = plant.ppr;
-    let availability = x.availability;
     if plant.report {
-        let full = maximum_power(x);
-        times_c(least(ppr, full), availability)
+        times_c(least(plant.ppr, maximum_power(x)), x.availability)
     } else {
         Kw(0)
     }
@@ -53,18 +43,16 @@ fn renewable(plant: Plant, x: Component) -> Kw
 fn limited(plant: Plant, hours: u32, x: Component) -> Kw
     ensures { result ≡ limited plant hours x }
 {
-    let e1 = plant.e1;
-    least(available_power(x), over_hours(e1, hours))
+    least(available_power(x), over_hours(plant.e1, hours))
 }
 
 // Kind 5.
 fn regulated(plant: Plant, hours: u32, x: Component) -> Kw
     ensures { result ≡ regulated plant hours x }
 {
-    let e1 = plant.e1;
     least(
         least(available_power(x), maximum_power(x)),
-        over_hours(e1, hours),
+        over_hours(plant.e1, hours),
     )
 }
 
@@ -72,95 +60,58 @@ fn regulated(plant: Plant, hours: u32, x: Component) -> Kw
 fn stored(plant: Plant, hours: u32, x: Component) -> Kw
     ensures { result ≡ stored plant hours x }
 {
-    let e2 = plant.e2;
-    let cap = plant.cap;
     least(
-        least(available_power(x), over_hours(e2, hours)),
-        over_hours(cap, hours),
+        least(available_power(x), over_hours(plant.e2, hours)),
+        over_hours(plant.cap, hours),
     )
 }
 
-// A result is held.
-fn has_result(x: Component) -> bool
-    ensures { result ≡ has_result x.result }
-{
-    let result = x.result;
-    match result {
-        Measured::Nothing => false,
-        Measured::Power(_) => true,
-    }
-}
-
 // Nothing that kind 8 needs is missing.
-fn is_complete(set: Component, generator: Component, storage: Component) -> bool
-    ensures { result ≡ complete set generator storage }
+fn is_complete(components: Components) -> bool
+    ensures { result ≡ complete components.set components.generator components.storage }
 {
-    if !has_result(set) {
-        return false;
-    }
-    if !has_result(generator) {
-        return false;
-    }
-    if !has_result(storage) {
-        return false;
-    }
-    let generating = generator.availability;
-    if !is_held(generating) {
-        return false;
-    }
-    let storing = storage.availability;
-    is_held(storing)
+    components.set.result.is_some()
+        && components.generator.result.is_some()
+        && components.storage.result.is_some()
+        && is_held(components.generator.availability)
+        && is_held(components.storage.availability)
 }
 
 // At most so much of two powers together.
 fn together(most: Kw, a: Kw, b: Kw) -> Kw
     ensures { result ≡ together most a b }
 {
-    let sum = a.0 as u64 + b.0 as u64;
-    if sum < most.0 as u64 {
-        return Kw(sum as u32);
-    }
-    most
+    Kw(a.0.saturating_add(b.0).min(most.0))
 }
 
 // Kind 8.
-fn with_storage(
-    plant: Plant,
-    hours: u32,
-    set: Component,
-    generator: Component,
-    storage: Component,
-) -> Kw
-    ensures { result ≡ with_storage plant hours set generator storage }
+fn with_storage(plant: Plant, hours: u32, components: Components) -> Kw
+    ensures { result ≡ with_storage plant hours components.set components.generator components.storage }
 {
-    if !is_complete(set, generator, storage) {
-        return Kw(0);
+    if is_complete(components) {
+        together(
+            maximum_power(components.set),
+            stored(plant, hours, components.storage),
+            limited(plant, hours, components.generator),
+        )
+    } else {
+        Kw(0)
     }
-    together(
-        maximum_power(set),
-        stored(plant, hours, storage),
-        limited(plant, hours, generator),
-    )
 }
 
-// The firm offer of a plant with its three components, of which all but kind 8 have the first alone.
-pub fn firm_offer(
-    plant: Plant,
-    hours: Hours,
-    set: Component,
-    generator: Component,
-    storage: Component,
-) -> Kw
-    ensures { result ≡ firm_offer plant hours set generator storage }
+// The firm offer of a plant with its three components, of which all but kind 8 have the set alone.
+#[tactic(auto, unfolding(crate::specs::Offer::firm_offer))]
+pub fn firm_offer(plant: Plant, hours: Hours, components: Components) -> Kw
+    ensures { result ≡ firm_offer plant hours components.set components.generator components.storage }
 {
-    let kind = plant.kind;
-    match kind {
+    let set = components.set;
+    match plant.kind {
         1 => thermal(plant, set),
         2 => renewable(plant, set),
         3 | 7 => limited(plant, hours.nhrm, set),
         4 | 6 => limited(plant, hours.ndhmd, set),
         5 => regulated(plant, hours.nhmd, set),
-        8 => with_storage(plant, hours.ndhmd, set, generator, storage),
+        8 => with_storage(plant, hours.ndhmd, components),
         _ => Kw(0),
     }
 }

@@ -1,5 +1,5 @@
 // The lines of the worked examples, in decimal numbers with blanks between.
-use plant::{Cap, Hours, Kw, Kwh, Plant};
+use plant::{Component, Components, Hours, Kw, Kwh, Minutes, Plant, Trial};
 use std::io;
 
 // A component of the unit, by its number.
@@ -23,27 +23,34 @@ impl TryFrom<u32> for Part {
     }
 }
 
+impl Part {
+    pub fn of(self, components: &mut Components) -> &mut Component {
+        match self {
+            Part::Set => &mut components.set,
+            Part::Generator => &mut components.generator,
+            Part::Storage => &mut components.storage,
+        }
+    }
+}
+
 // What a line asks for.
 #[derive(Clone, Copy)]
 pub enum Line<'a> {
-    // a new unit, without an answer
-    Unit(Cap),
-    // a test of a component: ending, TC, count, the bytes of the readings that are lent, and the readings
+    // a new unit with its PIC, if given, without an answer
+    Unit {
+        cap: Option<Kw>,
+    },
+    // a test of a component: how it went, the bytes of the readings that are lent, and the readings
     Test {
         part: Part,
-        ending: u32,
-        tc: u32,
-        count: u32,
+        trial: Trial,
         length: u32,
         readings: &'a [u32],
     },
-    // an availability of a component, minutes
+    // an availability of a component
     Availability {
         part: Part,
-        hd: u32,
-        hmp: u32,
-        hif: u32,
-        hed: u32,
+        minutes: Minutes,
     },
     // the firm offer
     Offer {
@@ -59,22 +66,27 @@ impl<'a> TryFrom<&'a [u32]> for Line<'a> {
 
     fn try_from(numbers: &'a [u32]) -> io::Result<Line<'a>> {
         match numbers {
-            [0, 0, _] => Ok(Line::Unit(Cap::Free)),
-            [0, _, pic] => Ok(Line::Unit(Cap::At(Kw(*pic)))),
+            [0, given, pic] => Ok(Line::Unit {
+                cap: (*given != 0).then_some(Kw(*pic)),
+            }),
             [1, part, ending, tc, count, length, readings @ ..] => Ok(Line::Test {
                 part: Part::try_from(*part)?,
-                ending: *ending,
-                tc: *tc,
-                count: *count,
+                trial: Trial {
+                    ending: *ending,
+                    tc: *tc,
+                    count: *count,
+                },
                 length: *length,
                 readings,
             }),
             [2, part, hd, hmp, hif, hed] => Ok(Line::Availability {
                 part: Part::try_from(*part)?,
-                hd: *hd,
-                hmp: *hmp,
-                hif: *hif,
-                hed: *hed,
+                minutes: Minutes {
+                    hd: *hd,
+                    hmp: *hmp,
+                    hif: *hif,
+                    hed: *hed,
+                },
             }),
             [3, kind, report, ppr, e1, e2, cap, nhrm, nhmd, ndhmd] => Ok(Line::Offer {
                 plant: Plant {

@@ -9,10 +9,12 @@
 
 mod line; // line.rt: what a line asks for
 
-use line::{Line, Part};
+use line::Line;
 use plant::{
-    Answer, Cap, Component, Measured, efficient_offers, firm_offer, fresh_component, maximum_power,
+    Component, Components, Kw, efficient_offers, firm_offer, fresh_component, maximum_power,
+    set_availability, test,
 };
+use quantities::{Refusal, number_met};
 use std::alloc::Global;
 use std::array;
 use std::io::{self, BufWriter, ErrorKind, Write};
@@ -20,55 +22,45 @@ use std::io::{self, BufWriter, ErrorKind, Write};
 // The unit that the lines are about.
 #[derive(Clone, Copy)]
 struct Unit {
-    set: Component,
-    generator: Component,
-    storage: Component,
-    cap: Cap,
+    components: Components,
+    cap: Option<Kw>,
 }
 
 impl Unit {
-    fn new(cap: Cap) -> Unit {
+    fn new(cap: Option<Kw>) -> Unit {
         Unit {
-            set: fresh_component(),
-            generator: fresh_component(),
-            storage: fresh_component(),
+            components: Components {
+                set: fresh_component(),
+                generator: fresh_component(),
+                storage: fresh_component(),
+            },
             cap,
-        }
-    }
-
-    fn part_mut(&mut self, part: Part) -> &mut Component {
-        match part {
-            Part::Set => &mut self.set,
-            Part::Generator => &mut self.generator,
-            Part::Storage => &mut self.storage,
         }
     }
 }
 
 // The answer to a test: its number, whether the component has a result, its maximum power and the memory.
-fn show_tested<W: Write>(out: &mut W, answer: Answer) -> io::Result<()> {
-    let Answer { number, component } = answer;
-    let has_result = matches!(component.result, Measured::Power(_));
+fn show_tested<W: Write>(
+    out: &mut W,
+    tested: Result<Component, Refusal>,
+    component: Component,
+) -> io::Result<()> {
+    let has_result = component.result.is_some() as u8;
     let power = maximum_power(component).0;
-    writeln!(
-        out,
-        "{number} {} {power} {}",
-        has_result as u8, component.void_trip as u8
-    )
+    let memory = component.void_trip as u8;
+    writeln!(out, "{} {has_result} {power} {memory}", number_met(tested))
 }
 
 // The unit after a line, of which the answer is written.
 fn answer<W: Write>(out: &mut W, alloc: Global, unit: &mut Unit, line: Line) -> io::Result<()> {
     match line {
-        Line::Unit(cap) => {
+        Line::Unit { cap } => {
             *unit = Unit::new(cap);
             Ok(())
         }
         Line::Test {
             part,
-            ending,
-            tc,
-            count,
+            trial,
             length,
             readings,
         } => {
@@ -78,25 +70,19 @@ fn answer<W: Write>(out: &mut W, alloc: Global, unit: &mut Unit, line: Line) -> 
                 .collect::<Vec<u8>>(alloc)?;
             let lent = bytes.get(..length as usize).ok_or(ErrorKind::InvalidData)?;
             let cap = unit.cap;
-            let component = unit.part_mut(part);
-            let answer = plant::test(*component, cap, ending, tc, count, lent);
-            *component = answer.component;
-            show_tested(out, answer)
+            let component = part.of(&mut unit.components);
+            let tested = test(*component, cap, trial, lent);
+            *component = tested.unwrap_or(*component);
+            show_tested(out, tested, *component)
         }
-        Line::Availability {
-            part,
-            hd,
-            hmp,
-            hif,
-            hed,
-        } => {
-            let component = unit.part_mut(part);
-            let answer = plant::set_availability(*component, hd, hmp, hif, hed);
-            *component = answer.component;
-            writeln!(out, "{}", answer.number)
+        Line::Availability { part, minutes } => {
+            let component = part.of(&mut unit.components);
+            let available = set_availability(*component, minutes);
+            *component = available.unwrap_or(*component);
+            writeln!(out, "{}", number_met(available))
         }
         Line::Offer { plant, hours } => {
-            let offer = firm_offer(plant, hours, unit.set, unit.generator, unit.storage);
+            let offer = firm_offer(plant, hours, unit.components);
             writeln!(out, "{}", offer.0)
         }
         Line::Efficient(units) => show_efficient(out, units),
@@ -119,7 +105,7 @@ fn show_efficient<W: Write>(out: &mut W, units: &[u32]) -> io::Result<()> {
 
 fn main(rt: HostRuntime) -> io::Result<()> {
     let mut out = BufWriter::new(rt.alloc(), io::writer(&rt))?;
-    let mut unit = Unit::new(Cap::Free);
+    let mut unit = Unit::new(None);
     for line in io::read_to_string(rt.alloc(), rt.stdin())?.lines() {
         let numbers: Vec<u32> = line
             .split_whitespace()

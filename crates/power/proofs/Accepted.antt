@@ -1,18 +1,19 @@
 -- What an accepted test shows.
-use mathlib.Core.Path.{◌≡◌, refl}
-use mathlib.Core.Bool.{Bool, true, false}
+use mathlib.Core.Path.{◌≡◌}
+use mathlib.Core.Bool.{true}
 use mathlib.Core.List.{List}
-use Prim.Native.Nat.{ℕ, ◌*◌, ◌≤◌}
+use Prim.Native.Nat.{ℕ, ◌*◌, ◌/◌, ◌^◌, ◌≤◌, ◌<◌}
+use Rattle.std.specs.Int.{from_le_bytes, w32}
+use Rattle.std.specs.List.{sum_by}
+use Rattle.std.specs.Simd.{first_chunks}
 use native.Mathlib.Omega.{arith}
-use borrow.Author.Tests.{leb-true, ltb-true, eqb-true}
-use lib.Dec.{leb, ltb, eqb}
+use Rattle.std.proofs.lemmas.Bool.Decides.{nat_tests}
 use lib.ListN.{length}
-use Rattle.basis.specs.Choice.{pick, between}
-use Rattle.basis.specs.Sums.{all_at_most}
-use Rattle.basis.proofs.Choice.{both_true, between_true}
+use Rattle.basis.specs.Sums.{sum, all_at_most}
 use Rattle.quantities.specs.Limits.{greatest_reading, greatest_ending, greatest_count, greatest_time, least_time}
-use Rattle.power.specs.Ranges.{readings_of, test_in_range}
+use Rattle.power.specs.Ranges.{readings_of}
 use Rattle.power.specs.Power.{count_fits, test_number}
+use Rattle.power.proofs.Readings.{sum_of_readings, energy_at_most}
 
 -- what an accepted test shows
 pub record AcceptedTest (ending tc count : ℕ) (bytes : List ℕ) : Type 0 where
@@ -24,36 +25,15 @@ pub record AcceptedTest (ending tc count : ℕ) (bytes : List ℕ) : Type 0 wher
   pub small : all_at_most greatest_reading (readings_of count bytes) ≡ true
   pub fits : count_fits ending tc count ≡ true
 
-module _ (ending tc count : ℕ) (bytes : List ℕ) where
-  in_range : test_in_range ending tc count bytes ≡ true → count_fits ending tc count ≡ true → AcceptedTest ending tc count bytes
-  in_range e f =
-      let a = both_true (leb ending greatest_ending) _ e in
-      let b = both_true (between least_time greatest_time tc) _ a.1 in
-      let t = between_true least_time greatest_time tc b.0 in
-      let n = both_true (leb count greatest_count) _ b.1 in
-      let l = both_true (eqb (length bytes) (4 * count)) _ n.1 in
-      record {
-        ended = leb-true ending greatest_ending a.0;
-        least_time_lem = t.0;
-        most_time = t.1;
-        few = leb-true count greatest_count n.0;
-        whole = eqb-true (length bytes) (4 * count) l.0;
-        small = l.1;
-        fits = f;
-      }
+pub accepted-test : (ending tc count : ℕ) (bytes : List ℕ) → test_number ending tc count bytes ≡ 0 → AcceptedTest ending tc count bytes
+accepted-test ending tc count bytes e = grind (arith, nat_tests)
 
-  pub accepted-test : test_number ending tc count bytes ≡ 0 → AcceptedTest ending tc count bytes
-  accepted-test e = go (test_in_range ending tc count bytes) (count_fits ending tc count) refl refl e
-    where
-      go : (r f : Bool) → test_in_range ending tc count bytes ≡ r → count_fits ending tc count ≡ f → ◌≡◌ {A = ℕ} (pick r (pick f 0 8) 3) 0 → AcceptedTest ending tc count bytes
-      go true true r f e = in_range r f
-      go true false r f e = absurd (omega arith)
-      go false f q p e = absurd (omega arith)
+-- .. and so the energy of the chunks that hold its readings is that of the readings, and fits
+pub energy_of_chunks : (ending tc count : ℕ) (bytes : List ℕ) → test_number ending tc count bytes ≡ 0 → (sum_by (from_le_bytes w32) (first_chunks 4 (length bytes / 4) bytes) ≡ sum (readings_of count bytes)) × (sum (readings_of count bytes) < 2 ^ 32)
+energy_of_chunks ending tc count bytes e =
+    let k = accepted-test ending tc count bytes e in
+    (sum_of_readings count bytes k.whole, omega (arith, k.few, energy_at_most greatest_reading count bytes k.small))
 
 -- no more readings than the full time has quarters
 pub count_within_time : (ending tc count : ℕ) → count_fits ending tc count ≡ true → count ≤ tc
-count_within_time ending tc count e = go (eqb ending 0) e
-  where
-    go : (t : Bool) → pick t (eqb count tc) (ltb count tc) ≡ true → count ≤ tc
-    go true e = omega (arith, eqb-true count tc e)
-    go false e = omega (arith, ltb-true count tc e)
+count_within_time ending tc count e = grind (arith, nat_tests)

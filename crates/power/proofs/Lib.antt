@@ -2,4 +2,3 @@
 pub mod Readings
 pub mod Quotients
 pub mod Accepted
-pub mod LeastCounts

@@ -3,7 +3,7 @@ ghost use Rattle.std.specs.Prelude.{true, ◌≡◌, ◌+◌, ◌≤◌, length}
 ghost use Rattle.basis.specs.Tables.{every_from};
 ghost use Rattle.quantities.specs.Limits.{least_time, greatest_time};
 ghost use Rattle.power.specs.Power.{reaches};
-ghost use Rattle.power.specs.Card.{is_least, least_count};
+ghost use Rattle.power.specs.Card.{is_least, least_count, CardDecides};
 
 use quantities::{GREATEST_TIME, LEAST_TIME};
 
@@ -112,17 +112,14 @@ fn card() -> [u32; 93]
 }
 
 // The card's count for TC, 0 for a TC that it does not have.
+#[tactic(auto, using(basis::proofs::Entries::every_at))]
 pub fn least_count(tc: u32) -> u32
     ensures { result ≡ least_count tc }
 {
-    if tc < LEAST_TIME {
+    if tc < LEAST_TIME || GREATEST_TIME < tc {
         return 0;
     }
-    if GREATEST_TIME < tc {
-        return 0;
-    }
-    let card = card();
-    card[(tc - LEAST_TIME) as usize]
+    card()[(tc - LEAST_TIME) as usize]
 }
 
 // The count reaches 80 % of TC.
@@ -132,3 +129,8 @@ pub(crate) fn reached(count: u32, tc: u32) -> bool
 {
     least_count(tc) <= count
 }
+
+// A count reaches 80 % of a full time exactly from the card's count on.
+pub fn card_decides()
+    ensures { CardDecides }
+{}

@@ -1,15 +1,8 @@
-// What is kept for a component of a plant.
+// What is kept for a component of a plant, and what a test, an availability and an offer are made of.
 ghost use Rattle.std.specs.Prelude.{◌≡◌};
 ghost use Rattle.power.specs.Power.{fresh};
 
 use crate::quantity::Kw;
-
-// The result of a component's tests.
-#[derive(Clone, Copy)]
-pub enum Measured {
-    Nothing,
-    Power(Kw),
-}
 
 // The minutes of an availability: available, planned maintenance, forced outage, equivalent degradation.
 #[derive(Clone, Copy)]
@@ -20,33 +13,37 @@ pub struct Minutes {
     pub hed: u32,
 }
 
-// A component's availability.
+// How a test went: its ending (0 complete, 1 tripped by no doing of the plant, 2 tripped by its doing), its full time TC in quarters, and the
+// count of its readings. The ending is a number: test takes any, and refuses those above 2.
 #[derive(Clone, Copy)]
-pub enum Availability {
-    Unknown,
-    Known(Minutes),
+pub struct Trial {
+    pub ending: u32,
+    pub tc: u32,
+    pub count: u32,
 }
 
-// The authorised injection PIC, if given.
+// The hours of the stage of greatest thermal requirement, its hours of maximum demand, and those per day.
 #[derive(Clone, Copy)]
-pub enum Cap {
-    Free,
-    At(Kw),
+pub struct Hours {
+    pub nhrm: u32,
+    pub nhmd: u32,
+    pub ndhmd: u32,
 }
 
-// A component: its result, whether its last ending-2 test was void with no result since, its availability.
+// A component: its result, if a test gave one, whether its last ending-2 test was void with no result since, its availability, if given.
 #[derive(Clone, Copy)]
 pub struct Component {
-    pub result: Measured,
+    pub result: Option<Kw>,
     pub void_trip: bool,
-    pub availability: Availability,
+    pub availability: Option<Minutes>,
 }
 
-// The number of a call on a component, 0 if accepted, and the component after it.
+// The three components of a plant, numbered 0 to 2: all kinds have the set, kind 8 a generator and a storage too.
 #[derive(Clone, Copy)]
-pub struct Answer {
-    pub number: u32,
-    pub component: Component,
+pub struct Components {
+    pub set: Component,
+    pub generator: Component,
+    pub storage: Component,
 }
 
 // A component without test or availability.
@@ -54,8 +51,8 @@ pub fn fresh_component() -> Component
     ensures { result ≡ fresh }
 {
     Component {
-        result: Measured::Nothing,
+        result: None,
         void_trip: false,
-        availability: Availability::Unknown,
+        availability: None,
     }
 }

@@ -2,13 +2,13 @@
 #![tactic(auto)]
 
 mod card; // card.rt: the card of least counts, and by it whether a test reached 80 %
-mod component; // component.rt: what is kept for a component
+mod component; // component.rt: what is kept for a component, and what a test, an availability and an offer are made of
 mod power; // power.rt: tests and maximum power
 mod quantity; // quantity.rt: kW, kWh and the conversions between them
 mod ranges; // ranges.rt: the ranges of a test and of an availability
 
-pub use card::least_count;
-pub use component::{Answer, Availability, Cap, Component, Measured, Minutes, fresh_component};
+pub use card::{card_decides, least_count};
+pub use component::{Component, Components, Hours, Minutes, Trial, fresh_component};
 pub use power::{maximum_power, test};
 pub use quantity::{Kw, Kwh, least, over_hours};
 pub use ranges::{minutes_in_range, test_in_range};

@@ -17,7 +17,7 @@ const QUARTERS_OF_HOUR: u64 = 4;
 pub fn least(a: Kw, b: Kw) -> Kw
     ensures { result ≡ least a b }
 {
-    if b.0 < a.0 { b } else { a }
+    Kw(a.0.min(b.0))
 }
 
 // The power of an energy over an hour or more, counted in quarters.
@@ -25,16 +25,12 @@ pub(crate) fn over_quarters(energy: Kwh, quarters: u32) -> Kw
     requires { quarters_of_hour ≤ quarters }
     ensures { result ≡ over_quarters energy quarters }
 {
-    let of_quarters = QUARTERS_OF_HOUR * energy.0 as u64;
-    Kw((of_quarters / quarters as u64) as u32)
+    Kw((QUARTERS_OF_HOUR * u64::from(energy.0) / u64::from(quarters)) as u32)
 }
 
 // The power of an energy over so many hours, 0 over none.
 pub fn over_hours(energy: Kwh, hours: u32) -> Kw
     ensures { result ≡ over_hours energy hours }
 {
-    if hours == 0 {
-        return Kw(0);
-    }
-    Kw(energy.0 / hours)
+    Kw(energy.0.checked_div(hours).unwrap_or(0))
 }

@@ -1,6 +1,6 @@
 // What refuses a call: the numbered replies, but for the two at which the reading of a journal stops.
 ghost use Rattle.std.specs.Prelude.{◌≡◌};
-ghost use Rattle.quantities.specs.Refusals.{number, met};
+ghost use Rattle.quantities.specs.Refusals.{refusal_number, met};
 
 #[derive(Clone, Copy, Debug, PartialEq, Eq)]
 pub enum Refusal {
@@ -29,7 +29,7 @@ pub enum Refusal {
 }
 
 impl From<Refusal> for u32 {
-    ghost from_gives = { λ refusal n. n ≡ number refusal };
+    ghost from_gives = { λ refusal n. n ≡ refusal_number refusal };
 
     fn from(refusal: Refusal) -> u32 {
         match refusal {

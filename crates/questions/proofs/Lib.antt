@@ -1,3 +1,2 @@
 -- Laws of the questions.
-pub mod Owned
 pub mod Values

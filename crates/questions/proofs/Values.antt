@@ -1,4 +1,6 @@
 -- The values of each answer are the figures of the book.
+use Rattle.std.specs.Prelude.{Option, None, Some}
+use Rattle.state.specs.declared.kept.Entry.{Entry}
 use mathlib.Core.Path.{◌≡◌, refl, ap, ◌∙◌}
 use mathlib.Core.Bool.{Bool, true, false}
 use mathlib.Core.List.{[], ◌∷◌}
@@ -11,19 +13,14 @@ use Rattle.basis.specs.Choice.{pick, between}
 use Rattle.basis.specs.Sums.{sum}
 use Rattle.quantities.specs.Limits.{units, producers, consumers}
 use Rattle.state.specs.declared.kept.Stage.TheVariants.{Closed}
-use Rattle.state.specs.declared.kept.Enrolment.{Enrolment}
-use Rattle.state.specs.declared.kept.Enrolment.TheVariants.{Vacant, Enrolled}
 use Rattle.state.specs.declared.kept.Declaration.{Declaration}
 use Rattle.state.specs.declared.kept.Declaration.TheVariants.{Undeclared, Declared}
 use Rattle.state.specs.declared.kept.Book.{Book}
 use Rattle.state.specs.State.{stage_number, unit_at, consumer_at, row_of}
-use Rattle.questions.specs.declared.UnitOffers.{UnitOffers}
-use Rattle.questions.specs.declared.UnitOffers.TheVariants.{NotEnrolled}
-use Rattle.questions.specs.declared.ProducerTotals.{ProducerTotals}
-use Rattle.questions.specs.declared.ProducerTotals.TheVariants.{WithoutUnit, Totals}
+use Rattle.questions.specs.declared.Offers.{Offers}
+use Rattle.questions.specs.declared.Totals.{Totals}
 use Rattle.questions.specs.declared.Signed.TheVariants.{Plus, Minus}
 use Rattle.questions.specs.declared.Adjustment.{Adjustment}
-use Rattle.questions.specs.declared.Adjustment.TheVariants.{Unsettled}
 use Rattle.questions.specs.Questions.{offers_by, has_unit, signed_of, adjustment_by}
 use Rattle.questions.specs.Questions.{unit_offers_of, producer_totals_of, declaration_of, adjustment_of}
 use Rattle.questions.specs.Values.{unit_values, producer_values, declaration_values, signed_value, difference, adjustment_values}
@@ -37,10 +34,10 @@ of_unit b unit =
     (get_or b.offers (unit - 1) 0)
     (get_or b.efficient (unit - 1) 0)
   where
-    go : (t : Bool) (e : Enrolment) (firm efficient : ℕ)
-        → unit_values (pick t (offers_by e firm efficient) NotEnrolled) ≡ pick (pick t (enrolled_by e) false) (firm ∷ efficient ∷ []) []
-    go true Vacant firm efficient = refl
-    go true (Enrolled e) firm efficient = refl
+    go : (t : Bool) (e : Option Entry) (firm efficient : ℕ)
+        → unit_values (pick t (offers_by e firm efficient) None) ≡ pick (pick t (enrolled_by e) false) (firm ∷ efficient ∷ []) []
+    go true None firm efficient = refl
+    go true (Some e) firm efficient = refl
     go false e firm efficient = refl
 
 of_producer : (b : Book) (producer : ℕ) → producer_values (producer_totals_of b producer) ≡ producer_figures b producer
@@ -51,7 +48,7 @@ of_producer b producer =
     (sum (row_of b.balances producer))
   where
     go : (t h : Bool) (limit s : ℕ)
-        → producer_values (pick t (pick h (Totals limit (pick t s 0)) WithoutUnit) WithoutUnit) ≡ pick (pick t h false) (limit ∷ s ∷ []) []
+        → producer_values (pick t (pick h (Some (record { limit = limit; committed = pick t s 0 })) None) None) ≡ pick (pick t h false) (limit ∷ s ∷ []) []
     go true true limit s = refl
     go true false limit s = refl
     go false h limit s = refl
@@ -82,7 +79,7 @@ of_adjustment b consumer =
     (get_or b.closing.credits (consumer - 1) 0)
   where
     go : (s t : Bool) (x : Declaration) (dfa charge credit : ℕ)
-        → adjustment_values (pick s (pick t (adjustment_by x dfa charge credit) Unsettled) Unsettled)
+        → adjustment_values (pick s (pick t (adjustment_by x dfa charge credit) None) None)
         ≡ pick s (pick t (where_declared x (λ f. difference f.df dfa ∷ difference credit charge ∷ [])) []) []
     go true true Undeclared dfa charge credit = refl
     go true true (Declared f) dfa charge credit = ap (λ adf. adf ∷ difference credit charge ∷ []) (signed_difference f.df dfa)
@@ -99,11 +96,11 @@ values_of_the_book =
     }
 
 -- an answer by its definition has the values of the book
-pub unit_told : (b : Book) (unit : ℕ) {r : UnitOffers}
+pub unit_told : (b : Book) (unit : ℕ) {r : Option Offers}
     → r ≡ unit_offers_of b unit → (r ≡ unit_offers_of b unit) × (unit_values r ≡ unit_figures b unit)
 unit_told b unit e = (e, ap unit_values e ∙ of_unit b unit)
 
-pub producer_told : (b : Book) (producer : ℕ) {r : ProducerTotals}
+pub producer_told : (b : Book) (producer : ℕ) {r : Option Totals}
     → r ≡ producer_totals_of b producer → (r ≡ producer_totals_of b producer) × (producer_values r ≡ producer_figures b producer)
 producer_told b producer e = (e, ap producer_values e ∙ of_producer b producer)
 
@@ -111,6 +108,6 @@ pub declaration_told : (b : Book) (consumer : ℕ) {r : Declaration}
     → r ≡ declaration_of b consumer → (r ≡ declaration_of b consumer) × (declaration_values r ≡ declaration_figures b consumer)
 declaration_told b consumer e = (e, ap declaration_values e ∙ of_declaration b consumer)
 
-pub adjustment_told : (b : Book) (consumer : ℕ) {r : Adjustment}
+pub adjustment_told : (b : Book) (consumer : ℕ) {r : Option Adjustment}
     → r ≡ adjustment_of b consumer → (r ≡ adjustment_of b consumer) × (adjustment_values r ≡ adjustment_figures b consumer)
 adjustment_told b consumer e = (e, ap adjustment_values e ∙ of_adjustment b consumer)

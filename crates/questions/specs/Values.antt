@@ -1,36 +1,32 @@
 -- The answers in the paper's terms: the figures of lines U, P, D and S ("Journal in, listing out"), and none where there is no line.
-use Rattle.std.specs.Prelude.{◌≡◌, Bool, true, false, List, [], ◌∷◌, ℕ, ◌-◌, eqb, get_or}
+use Rattle.state.specs.declared.kept.Entry.{Entry}
+use Rattle.std.specs.Prelude.{◌≡◌, Bool, true, false, List, [], ◌∷◌, ℕ, ◌-◌, eqb, get_or, Option, None, Some}
 use Rattle.basis.specs.Choice.{pick, between}
 use Rattle.basis.specs.Sums.{sum}
 use Rattle.quantities.specs.Limits.{units, producers, consumers}
 use Rattle.state.specs.declared.kept.Stage.TheVariants.{Closed}
-use Rattle.state.specs.declared.kept.Enrolment.{Enrolment}
-use Rattle.state.specs.declared.kept.Enrolment.TheVariants.{Vacant, Enrolled}
 use Rattle.state.specs.declared.kept.Figures.{Figures}
 use Rattle.state.specs.declared.kept.Declaration.{Declaration}
 use Rattle.state.specs.declared.kept.Declaration.TheVariants.{Undeclared, Declared}
 use Rattle.state.specs.declared.kept.CloseFigures.{CloseFigures}
 use Rattle.state.specs.declared.kept.Book.{Book}
-use Rattle.questions.specs.declared.UnitOffers.{UnitOffers}
-use Rattle.questions.specs.declared.UnitOffers.TheVariants.{NotEnrolled, Offers}
-use Rattle.questions.specs.declared.ProducerTotals.{ProducerTotals}
-use Rattle.questions.specs.declared.ProducerTotals.TheVariants.{WithoutUnit, Totals}
+use Rattle.questions.specs.declared.Offers.{Offers}
+use Rattle.questions.specs.declared.Totals.{Totals}
 use Rattle.questions.specs.declared.Signed.{Signed}
 use Rattle.questions.specs.declared.Signed.TheVariants.{Plus, Minus}
 use Rattle.questions.specs.declared.Adjustment.{Adjustment}
-use Rattle.questions.specs.declared.Adjustment.TheVariants.{Unsettled, Settled}
 use Rattle.state.specs.State.{stage_number, unit_at, consumer_at, row_of}
 use Rattle.questions.specs.Questions.{unit_offers_of, has_unit, producer_totals_of, declaration_of, adjustment_of}
 
 -- "U: enrolled unit, offer, efficient offer."
-abbrev pub unit_values : UnitOffers → List ℕ
-unit_values NotEnrolled = []
-unit_values (Offers firm efficient) = firm ∷ efficient ∷ []
+abbrev pub unit_values : Option Offers → List ℕ
+unit_values None = []
+unit_values (Some o) = o.firm ∷ o.efficient ∷ []
 
 -- "P: producer with a unit, its efficient total, the sum of its balances."
-abbrev pub producer_values : ProducerTotals → List ℕ
-producer_values WithoutUnit = []
-producer_values (Totals limit committed) = limit ∷ committed ∷ []
+abbrev pub producer_values : Option Totals → List ℕ
+producer_values None = []
+producer_values (Some t) = t.limit ∷ t.committed ∷ []
 
 -- "D: declared consumer, firm demand.", behind what it declared: D, A, DF
 abbrev pub declaration_values : Declaration → List ℕ
@@ -50,14 +46,14 @@ abbrev pub difference : ℕ → ℕ → SignedNumber
 difference a b = (a - b, b - a)
 
 -- "S: declared consumer, ADF, cents (charge negative, credit positive, else 0)."
-abbrev pub adjustment_values : Adjustment → List SignedNumber
-adjustment_values Unsettled = []
-adjustment_values (Settled adf charge credit) = signed_value adf ∷ difference credit charge ∷ []
+abbrev pub adjustment_values : Option Adjustment → List SignedNumber
+adjustment_values None = []
+adjustment_values (Some a) = signed_value a.adf ∷ difference a.credit a.charge ∷ []
 
 -- the book has the unit enrolled; it has a unit of the producer
-abbrev pub enrolled_by : Enrolment → Bool
-enrolled_by Vacant = false
-enrolled_by (Enrolled e) = true
+abbrev pub enrolled_by : Option Entry → Bool
+enrolled_by None = false
+enrolled_by (Some e) = true
 
 abbrev pub is_enrolled : Book → ℕ → Bool
 is_enrolled b unit = pick (between 1 units unit) (enrolled_by (unit_at b.units unit).enrolment) false

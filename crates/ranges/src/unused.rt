@@ -3,7 +3,7 @@ ghost use Rattle.std.specs.Prelude.{◌≡◌};
 ghost use Rattle.table.specs.Ranges.{uses_of, unset_unless, zero_unless, unused_zero};
 
 use quantities::{INJECTION_GIVEN, REPORT_HELD, is_flagged};
-use table::Uses;
+use table::{Enrolling, Uses};
 
 // None of them.
 const NONE: Uses = Uses {
@@ -15,6 +15,7 @@ const NONE: Uses = Uses {
 };
 
 // The flag of the supply report and the fields PPR, E1, E2 and CAP by kind.
+#[tactic(auto, unfolding(table::specs::Ranges::uses_of))]
 pub(crate) fn uses_of(kind: u32) -> Uses
     ensures { result ≡ uses_of kind }
 {
@@ -40,51 +41,29 @@ pub(crate) fn uses_of(kind: u32) -> Uses
 }
 
 // A flag that is not used does not stand.
-pub(crate) fn unset_unless(used: bool, stands: bool) -> bool
+fn unset_unless(used: bool, stands: bool) -> bool
     ensures { result ≡ unset_unless used stands }
 {
-    if used {
-        return true;
-    }
-    !stands
+    used || !stands
 }
 
 // A field that is not used is 0.
-pub(crate) fn zero_unless(used: bool, value: u32) -> bool
+fn zero_unless(used: bool, value: u32) -> bool
     ensures { result ≡ zero_unless used value }
 {
-    if used {
-        return true;
-    }
-    value == 0
+    used || value == 0
 }
 
 // The flags and fields of a unit that its kind and flags do not use are 0.
-pub(crate) fn unused_zero(
-    uses: Uses,
-    flags: u32,
-    pic: u32,
-    ppr: u32,
-    e1: u32,
-    e2: u32,
-    cap: u32,
-) -> bool
-    ensures { result ≡ unused_zero uses flags pic ppr e1 e2 cap }
+#[tactic(auto, unfolding(table::specs::Ranges::unused_zero))]
+pub(crate) fn unused_zero(e: Enrolling) -> bool
+    ensures { result ≡ unused_zero (uses_of e.kind) e }
 {
-    if !unset_unless(uses.report, is_flagged(REPORT_HELD, flags)) {
-        return false;
-    }
-    if !zero_unless(is_flagged(INJECTION_GIVEN, flags), pic) {
-        return false;
-    }
-    if !zero_unless(uses.ppr, ppr) {
-        return false;
-    }
-    if !zero_unless(uses.e1, e1) {
-        return false;
-    }
-    if !zero_unless(uses.e2, e2) {
-        return false;
-    }
-    zero_unless(uses.cap, cap)
+    let uses = uses_of(e.kind);
+    unset_unless(uses.report, is_flagged(REPORT_HELD, e.flags))
+        && zero_unless(is_flagged(INJECTION_GIVEN, e.flags), e.pic)
+        && zero_unless(uses.ppr, e.ppr)
+        && zero_unless(uses.e1, e.e1)
+        && zero_unless(uses.e2, e.e2)
+        && zero_unless(uses.cap, e.cap)
 }

@@ -1,6 +1,4 @@
 -- Laws of reading and writing, and the theorems.
-pub mod Turns
-pub mod Carried
 pub mod Reader
 pub mod Shows
 pub mod Writer

@@ -12,7 +12,7 @@ use Rattle.table.specs.Records.{call_of, readings_size, form_of, mark_at}
 use Rattle.table.specs.Fields.{decode}
 use Rattle.record.specs.Reading.{read_call, read_marked, read_found, read_at, part_of}
 use Rattle.table.specs.declared.calls.Call.{Call}
-use Rattle.table.specs.declared.forms.Found.{Found}
+use Rattle.std.specs.Prelude.{Option}
 use Rattle.table.specs.declared.forms.Mark.{Mark}
 use Rattle.record.specs.declared.reading.Read.TheVariants.{End, Cut, Record}
 use Rattle.table.proofs.Codec.{decode_part}
@@ -26,7 +26,7 @@ pub at_one : (s : List ℕ) (at : ℕ) → at < length s → length s - at < 2 �
 unfolding read_at
 at_one s at h k = rw (lt-leb (length s) at h, lt-ltb (length s - at) 2 k)
 
-pub at_two : (s : List ℕ) (at : ℕ) (f : Found) → at < length s → 2 ≤ length s - at → f ≡ mark_at (number_at 2 s at) → read_found s at f ≡ read_at s at
+pub at_two : (s : List ℕ) (at : ℕ) (f : Option Mark) → at < length s → 2 ≤ length s - at → f ≡ mark_at (number_at 2 s at) → read_found s at f ≡ read_at s at
 unfolding read_at
 at_two s at f h k e = rw (lt-leb (length s) at h, le-ltb (length s - at) 2 k, e)
 
@@ -71,12 +71,6 @@ module _ (s : List ℕ) (at : ℕ) (m : Mark) (size : ℕ) (type_size : size ≡
     whole-record k =
         rw (type_size, en)
         (rw (le-ltb (length s - at) ((form_of m).size + readings_size c) (omega (arith, type_size))) at read-call)
-
-    -- and nothing behind the fields
-    pub fields_alone : n ≡ 0 → Record c (at + size) (at + size) ≡ read_marked s at m
-    fields_alone z =
-        let b : at + size ≡ at + size + n = omega arith in
-        ap (λ k. Record c (at + size) k) b ∙ whole-record (omega arith)
 
 pub no_part : (s : List ℕ) (from to : ℕ) → to < from → [] ≡ part_of s from to
 unfolding part_of

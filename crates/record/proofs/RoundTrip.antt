@@ -7,10 +7,11 @@ use native.Mathlib.Omega.{arith}
 use borrow.Author.Tests.{ltb-true}
 use lib.ListN.{length, take, drop, take-append-drop, length-append, length-take, length-drop}
 use lib.Seq.{take_at, drop_at, drop-drop, take-add, take_all, length-take-le, take-append-le, drop-append-le}
+use Rattle.std.specs.Prelude.{Some}
 use Rattle.basis.specs.Numbers.{Bytes, number, bytes_of, number_at, written}
 use Rattle.basis.specs.Sums.{sum}
 use Rattle.basis.proofs.Numbers.{length-bytes_of, number-bytes_of, bytes_of-number, bytes_take, bytes_drop}
-use Rattle.table.specs.Records.{found_of, parts_of, call_of, readings_size, fields_size, record_size, form_of, least_of, greatest_of, marks, mark_at}
+use Rattle.table.specs.Records.{table_of, parts_of, call_of, readings_size, fields_size, record_size, form_of, mark_at}
 use Rattle.table.specs.Fields.{encode, decode}
 use Rattle.table.specs.Ranges.{fields_in_range, call_number}
 use Rattle.record.specs.Reading.{read_at, part_of}
@@ -20,11 +21,10 @@ use Rattle.table.specs.declared.calls.Call.{Call}
 use Rattle.table.specs.declared.forms.Mark.{Mark}
 use Rattle.table.proofs.Codec.{length-encode, decode-encode, encode-decode, decode-append}
 use Rattle.table.proofs.Laws.{in_range}
-use Rattle.record.proofs.Carried.{length-carried}
 use Rattle.record.proofs.Reader.{part_of_lem}
-use Rattle.record.proofs.Shows.{Shows, mark_found, read_shows, shows_read}
-use Rattle.table.proofs.Table.{lawful, of_parts}
-use Rattle.record.proofs.Writer.{write_whole, write_put}
+use Rattle.record.proofs.Shows.{Shows, read_shows, shows_read}
+use Rattle.table.proofs.Table.{lawful, of_parts, mark_found}
+use Rattle.record.proofs.Writer.{length-carried, write_whole, write_put}
 
 -- the mark of a call's record, and its fields
 abbrev front : Call → List ℕ
@@ -40,7 +40,7 @@ length_fields c =
 -- a call in range at the start of a list
 module _ (c : Call) (rs : List ℕ) (e : call_number c rs ≡ 0) where
   carried-size : length (carried c rs) ≡ readings_size c
-  carried-size = length-carried c rs (in_range c rs e).1
+  carried-size = length-carried c rs ((of_parts c).lent rs (in_range c rs e).1)
 
   pub length-record : length (record_of c rs) ≡ record_size c
   unfolding record_of
@@ -57,7 +57,7 @@ module _ (c : Call) (rs : List ℕ) (e : call_number c rs ≡ 0) where
     all_record = simp append_assoc
 
     -- the mark is found
-    all_found : mark_at (number_at 2 all 0) ≡ found_of (parts_of c).mark
+    all_found : mark_at (number_at 2 all 0) ≡ Some (parts_of c).mark
     unfolding all
     all_found =
         let f = lawful (parts_of c).mark in
@@ -67,17 +67,13 @@ module _ (c : Call) (rs : List ℕ) (e : call_number c rs ≡ 0) where
 
     -- the fields are the call's
     all_call : c ≡ call_of (parts_of c).mark (decode (form_of (parts_of c).mark).widths (drop 2 all))
-    unfolding all
+    unfolding all form_of
     all_call =
         let f = form_of (parts_of c).mark in
         let l = lawful (parts_of c).mark in
         let r = (in_range c rs e).0 in
         let d =
-        decode-encode f.widths (least_of (parts_of c).mark) (greatest_of (parts_of c).mark) (parts_of c).values (carried c rs ++ rest)
-        (l.least_count_lem ∙ sym l.widths_count)
-        (of_parts c).count
-        l.fits
-        r
+        decode-encode (table_of (parts_of c).mark).columns (parts_of c).values (carried c rs ++ rest) ((of_parts c).count ∙ l.widths_count ∙ sym l.columns_count) l.fits r
         in
         rw (drop_at (front c) (fields c ++ (carried c rs ++ rest)) 2 (length-bytes_of 2 f.mark), d) (sym ((of_parts c).again r))
 
@@ -106,11 +102,11 @@ module _ (c : Call) (rs : List ℕ) (e : call_number c rs ≡ 0) where
 -- a call in range, written to a buffer that is long enough, reads back
 pub written_is_read : WrittenIsRead
 written_is_read c rs out e h =
-    let n = write_whole c rs (length out) e h in
+    let n = write_whole c rs out e h in
     let rest : List ℕ = drop (0 + length (record_of c rs)) out in
     let l = length-record c rs e in
     let k : 0 + length (record_of c rs) ≡ record_size c = omega arith in
-    let w : written_by c rs out ≡ record_of c rs ++ rest = sym (write_put c rs out n) in
+    let w : written_by c rs out ≡ record_of c rs ++ rest = write_put c rs out n in
     let a : written_by c rs out ≡ all c rs e rest = w ∙ all_record c rs e rest in
     record {
       accepted = n;
@@ -156,7 +152,7 @@ module _ (s : List ℕ) (at : ℕ) (c : Call) (from next : ℕ) (w : Shows s at 
       let r : carried c rs ≡ rs = take_all (readings_size c) rs lr in
       let two : length (take 2 (drop at s)) ≡ 2 = length-take-le 2 (drop at s) (omega (arith, length-drop at s, size_law, w.behind, w.there)) in
       let mk : bytes_of 2 (form_of w.mark).mark ≡ take 2 (drop at s) =
-      ap (λ x. bytes_of 2 x) (mark_found (number_at 2 s at) marks w.mark _ _ w.found).mark
+      ap (λ x. bytes_of 2 x) (mark_found (number_at 2 s at) w.mark w.found)
       ∙ ap (λ n. bytes_of n (number (take 2 (drop at s)))) (sym two)
       ∙ bytes_of-number (take 2 (drop at s)) (bytes_take 2 (drop at s) (bytes_drop at s h)) in
       let fs : encode ws (decode ws (drop (at + 2) s)) ≡ take (sum ws) (drop (at + 2) s) =
@@ -170,10 +166,10 @@ read_is_written s at c from next out h r e k =
     let z = record_again s at c from next w h e in
     let n : record_size c ≤ length out =
     omega (arith, w.behind, ap (λ (m : Mark). (form_of m).size) (mark_again s at c from next w (in_range c (part_of s from next) e).0)) in
-    let a = write_whole c (part_of s from next) (length out) e n in
+    let a = write_whole c (part_of s from next) out e n in
     record {
       accepted = a;
-      bytes = sym (write_put c (part_of s from next) out a) ∙ ap (λ (x : List ℕ). written out 0 x) z;
+      bytes = write_put c (part_of s from next) out a ∙ ap (λ (x : List ℕ). written out 0 x) z;
     }
 
 -- a read record's next place is beyond its start and within the journal

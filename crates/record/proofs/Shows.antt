@@ -1,53 +1,29 @@
 -- What a read record shows, and what it takes to be read.
 use mathlib.Core.Path.{◌≡◌, refl, sym, ap, ◌∙◌}
 use mathlib.Core.Bool.{Bool, true, false}
-use mathlib.Core.List.{List, [], ◌∷◌}
+use mathlib.Core.List.{List}
 use Prim.Native.Nat.{ℕ, ◌+◌, ◌-◌, ◌≤◌, ◌<◌}
 use native.Mathlib.Omega.{arith}
-use borrow.Author.Tests.{leb-false, ltb-false, eqb-true}
-use lib.Dec.{leb, ltb, eqb}
+use borrow.Author.Tests.{leb-false, ltb-false}
+use lib.Dec.{leb, ltb}
+use Rattle.std.specs.Prelude.{Option, None, Some}
 use lib.ListN.{length, drop}
 use Rattle.basis.specs.Choice.{pick}
 use Rattle.basis.specs.Numbers.{number_at}
-use Rattle.table.specs.Records.{call_of, readings_size, form_of, found_of, find_mark, marks, mark_at}
+use Rattle.table.specs.Records.{call_of, readings_size, form_of, mark_at}
 use Rattle.table.specs.Fields.{decode}
 use Rattle.record.specs.Reading.{read_call, read_marked, read_found, read_at}
 use Rattle.table.specs.declared.calls.Call.{Call}
-use Rattle.table.specs.declared.forms.Found.{Found}
-use Rattle.table.specs.declared.forms.Found.TheVariants.{Nothing, One}
 use Rattle.table.specs.declared.forms.Mark.{Mark}
 use Rattle.record.specs.declared.reading.Read.{Read}
 use Rattle.record.specs.declared.reading.Read.TheVariants.{End, Cut, Record}
 use Rattle.record.proofs.Reader.{at_two, whole-record}
 use Rattle.table.proofs.Table.{lawful}
 
--- the mark of a record that was found, and the bytes of its fields and of each reading
-pub record Named (x : ℕ) (m : Mark) (size width : ℕ) : Type 0 where
-  pub mark : (form_of m).mark ≡ x
-  pub size_right : size ≡ (form_of m).size
-  pub width_right : width ≡ (form_of m).reading_width
-
-pub mark_found : (x : ℕ) (ms : List Mark) (m : Mark) (size width : ℕ) → find_mark x ms ≡ One m size width → Named x m size width
-unfolding find_mark
-mark_found x [] m size width e = let z : ◌≡◌ {A = ℕ} 0 1 = cc in absurd (omega arith)
-mark_found x (k ∷ ms) m size width e = go (eqb x (form_of k).mark) refl (λ p. mark_found x ms m size width p) e
-  where
-    go : (t : Bool) → eqb x (form_of k).mark ≡ t → (find_mark x ms ≡ One m size width → Named x m size width) → pick t (found_of k) (find_mark x ms) ≡ One m size width → Named x m size width
-    go true h later p =
-        let q : k ≡ m = cc p in
-        let a : (form_of k).size ≡ size = cc p in
-        let b : (form_of k).reading_width ≡ width = cc p in
-        record {
-          mark = ap (λ (n : Mark). (form_of n).mark) (sym q) ∙ sym (eqb-true x (form_of k).mark h);
-          size_right = sym a ∙ ap (λ (n : Mark). (form_of n).size) q;
-          width_right = sym b ∙ ap (λ (n : Mark). (form_of n).reading_width) q;
-        }
-    go false h later p = later p
-
 -- a record of a mark stands at a place, with its readings from one place to another
 pub record Shows (s : List ℕ) (at : ℕ) (c : Call) (from next : ℕ) : Type 0 where
   pub mark : Mark
-  pub found : mark_at (number_at 2 s at) ≡ found_of mark
+  pub found : mark_at (number_at 2 s at) ≡ Some mark
   pub call : c ≡ call_of mark (decode (form_of mark).widths (drop (at + 2) s))
   pub start : from ≡ at + (form_of mark).size
   pub behind : next ≡ at + (form_of mark).size + readings_size c
@@ -65,7 +41,7 @@ module _ (s : List ℕ) (at : ℕ) (c : Call) (from next : ℕ) where
   not_cut : Cut ≡ Record c from next → ⊥
   not_cut e = let z : ◌≡◌ {A = ℕ} 0 1 = cc in omega arith
 
-  marked_shows : (m : Mark) → at < length s → mark_at (number_at 2 s at) ≡ found_of m → read_marked s at m ≡ Record c from next → Shows s at c from next
+  marked_shows : (m : Mark) → at < length s → mark_at (number_at 2 s at) ≡ Some m → read_marked s at m ≡ Record c from next → Shows s at c from next
   unfolding read_marked read_call
   marked_shows m h f e =
       let n : ℕ = (form_of m).size in
@@ -79,11 +55,9 @@ module _ (s : List ℕ) (at : ℕ) (c : Call) (from next : ℕ) where
       let w = ltb-false (length s - at) (n + readings_size d) b.0 in
       record { mark = m; found = f; call = sym q; start = sym g; behind = omega arith; there = omega arith }
 
-  found_shows : (f : Found) → at < length s → mark_at (number_at 2 s at) ≡ f → read_found s at f ≡ Record c from next → Shows s at c from next
-  found_shows Nothing h f e = let z : ◌≡◌ {A = ℕ} 0 1 = cc in absurd (omega arith)
-  found_shows (One m size width) h f e =
-      let n = mark_found (number_at 2 s at) marks m size width f in
-      marked_shows m h (f ∙ ap (λ k. One m k width) n.size_right ∙ ap (λ k. One m (form_of m).size k) n.width_right) e
+  found_shows : (f : Option Mark) → at < length s → mark_at (number_at 2 s at) ≡ f → read_found s at f ≡ Record c from next → Shows s at c from next
+  found_shows None h f e = let z : ◌≡◌ {A = ℕ} 0 1 = cc in absurd (omega arith)
+  found_shows (Some m) h f e = marked_shows m h f e
 
   -- a read record shows all that
   pub read_shows : read_at s at ≡ Record c from next → Shows s at c from next
@@ -98,7 +72,7 @@ module _ (s : List ℕ) (at : ℕ) (c : Call) (from next : ℕ) where
   shows_read w =
       let m : Mark = w.mark in
       let z = (lawful m).size in
-      sym (at_two s at (found_of m) (omega arith) (omega arith) (sym w.found))
+      sym (at_two s at (Some m) (omega arith) (omega arith) (sym w.found))
       ∙ sym (whole-record s at m (form_of m).size refl c (readings_size c) w.call refl (omega arith) (omega arith))
       ∙ ap (λ n. Record c n (at + (form_of m).size + readings_size c)) (sym w.start)
       ∙ ap (λ n. Record c from n) (sym w.behind)

@@ -1,13 +1,11 @@
 -- Reading: a record, the end of the journal, number 1 (cut short) or number 2 (unknown mark) ("Journal records", "Numbered replies").
-use Rattle.std.specs.Prelude.{List, [], ℕ, ◌+◌, ◌-◌, leb, ltb, length, take, drop}
+use Rattle.std.specs.Prelude.{List, [], ℕ, ◌+◌, ◌-◌, leb, ltb, length, take, drop, Option, None, Some}
 use Rattle.basis.specs.Choice.{pick}
 use Rattle.basis.specs.Numbers.{number_at}
 use Rattle.table.specs.Records.{call_of, readings_size, form_of, mark_at}
 use Rattle.table.specs.Fields.{decode}
 use Rattle.table.specs.declared.calls.Call.{Call}
 use Rattle.table.specs.declared.forms.Mark.{Mark}
-use Rattle.table.specs.declared.forms.Found.{Found}
-use Rattle.table.specs.declared.forms.Found.TheVariants.{Nothing, One}
 use Rattle.record.specs.declared.reading.Read.{Read}
 use Rattle.record.specs.declared.reading.Read.TheVariants.{End, Cut, Unknown, Record}
 
@@ -23,9 +21,9 @@ read_marked s at m =
     (read_call s at (form_of m).size (call_of m (decode (form_of m).widths (drop (at + 2) s))))
 
 -- two bytes that are no mark
-abbrev pub read_found : List ℕ → ℕ → Found → Read
-read_found s at Nothing = Unknown
-read_found s at (One m size width) = read_marked s at m
+abbrev pub read_found : List ℕ → ℕ → Option Mark → Read
+read_found s at None = Unknown
+read_found s at (Some m) = read_marked s at m
 
 -- what stands at a place of a journal; one byte that is left over is cut short, whatever it is
 unfoldable pub read_at : List ℕ → ℕ → Read

@@ -7,17 +7,14 @@ ghost use Rattle.table.specs.Fields.{encode};
 use table::FIELDS;
 
 // The values in these widths, over what stands in out from `at` on.
-pub fn put_fields(out: &mut [u8], at: usize, widths: [usize; FIELDS], values: [u32; FIELDS])
-    requires { at + sum widths ≤ length out.old }
-    ensures { out.new ≡ written out.old at (encode widths values) }
+pub fn put_fields(out: &mut [u8], at: usize, widths: &[usize; FIELDS], values: &[u32; FIELDS])
+    requires { at + sum widths.now ≤ length out.old }
+    ensures { out.new ≡ written out.old at (encode widths.now values.now) }
 {
     let mut place = at;
-    let mut i = 0;
-    while i < FIELDS {
-        let width = widths[i];
-        basis::put_number(out, place, width, values[i] as u64);
-        place += width;
-        i += 1;
+    for (width, value) in widths.iter().zip(values) {
+        basis::put_number(out, place, *width, *value as u64);
+        place += *width;
     }
 }
 
@@ -26,9 +23,5 @@ pub fn put_bytes(out: &mut [u8], at: usize, bytes: &[u8])
     requires { at + length bytes.now ≤ length out.old }
     ensures { out.new ≡ written out.old at bytes.now }
 {
-    let mut i = 0;
-    while i < bytes.len() {
-        out[at + i] = bytes[i];
-        i += 1;
-    }
+    out[at..at + bytes.len()].copy_from_slice(bytes);
 }

@@ -2,12 +2,12 @@
 #![tactic(auto)]
 
 mod fields; // fields.rt: fields written
-mod sizes; // sizes.rt: the bytes of a record
+mod promises; // promises.rt: theorems on both
 mod reading; // reading.rt: the reader
-mod writing; // writing.rt: the writer
+mod writing; // writing.rt: the writer, and the bytes of a record
 
-pub use ranges::call_number;
+pub use promises::{read_is_alone, read_is_placed, read_is_written, written_is_read};
+pub use ranges::check_call;
 pub use reading::{Read, read_at, readings_of, stop_number};
-pub use sizes::record_size;
-pub use table::{Call, ConsumerCall, ContractCall, UnitCall};
-pub use writing::write;
+pub use table::{Call, ConsumerCall, ContractCall, Enrolling, UnitCall};
+pub use writing::{record_size, write};

@@ -1,12 +1,11 @@
 // The reader: what stands at a place of a journal of any bytes, and the part of it that holds a test's readings.
 ghost use Rattle.std.specs.Prelude.{◌≡◌, ◌<◌, length};
-ghost use Rattle.table.specs.Records.{form_of};
 ghost use Rattle.record.specs.Reading.{read_marked, read_at, stop_number, part_of};
 
-use crate::sizes::readings_at;
-use table::{Call, Found, Mark, call_of, mark_at};
+use table::{Call, Mark, call_of, form_of, mark_at, readings_size};
 
-// What stands at a place: nothing, a record that is cut short, an unknown mark, or a whole record.
+// What stands at a place: nothing, a record that is cut short, an unknown mark, or a whole record. An enum, since one match names the four
+// cases: a Result of an Option would take two.
 #[derive(Clone, Copy)]
 pub enum Read {
     End,
@@ -20,39 +19,31 @@ pub enum Read {
     },
 }
 
-// The place of the count of readings: behind the mark and four fields of a byte.
-const COUNT: usize = 6;
-
-// The record of a known mark that stands at a place, with so many bytes of mark and fields, and of each reading.
-fn read_marked(journal: &[u8], at: usize, mark: Mark, size: usize, width: usize) -> Read
-    requires { (at < length journal.now) × (size ≡ (form_of mark).size) × (width ≡ (form_of mark).reading_width) }
+// The record of a known mark that stands at a place.
+fn read_marked(journal: &[u8], at: usize, mark: Mark) -> Read
+    requires { at < length journal.now }
     ensures { result ≡ read_marked journal.now at mark }
 {
     let left = journal.len() - at;
+    let size = form_of(mark).size;
     if left < size {
         return Read::Cut;
     }
-    let end = at + size;
-    let call = call_of(mark, &journal[at + 2..end]);
-    if width == 0 {
-        return Read::Record {
-            call,
-            readings: end,
-            next: end,
-        };
-    }
-    let more = readings_at(journal, at + COUNT, width);
+    let readings = at + size;
+    let call = call_of(mark, &journal[at + 2..readings]);
+    let more = readings_size(call);
     if left - size < more {
         return Read::Cut;
     }
     Read::Record {
         call,
-        readings: end,
-        next: end + more,
+        readings,
+        next: readings + more,
     }
 }
 
 // What stands at a place of a journal; any journal and any place are taken.
+
 #[tactic(auto, using(crate::proofs::Reader::at_end, crate::proofs::Reader::at_one))]
 pub fn read_at(journal: &[u8], at: usize) -> Read
     ensures { result ≡ read_at journal.now at }
@@ -64,12 +55,8 @@ pub fn read_at(journal: &[u8], at: usize) -> Read
         return Read::Cut; // a mark has two bytes
     }
     match mark_at(basis::number_at(journal, at, 2) as u32) {
-        Found::Nothing => Read::Unknown,
-        Found::One {
-            mark,
-            size,
-            reading_width,
-        } => read_marked(journal, at, mark, size, reading_width),
+        None => Read::Unknown,
+        Some(mark) => read_marked(journal, at, mark),
     }
 }
 
@@ -86,15 +73,9 @@ pub fn stop_number(read: Read) -> u32
 }
 
 // The part of the journal between two places, empty where there is none.
-#[tactic(auto, using(crate::proofs::Reader::no_part, crate::proofs::Reader::long_part, crate::proofs::Reader::part_of_lem))]
+#[tactic(auto, unfolding(crate::specs::Reading::part_of))]
 pub fn readings_of(journal: &[u8], from: usize, to: usize) -> &[u8]
     ensures { result.now ≡ part_of journal.now from to }
 {
-    if to < from {
-        return &journal[..0];
-    }
-    if journal.len() < to {
-        return &journal[..0];
-    }
-    &journal[from..to]
+    journal.get(from..to).unwrap_or(&[])
 }

@@ -5,7 +5,8 @@
 ghost use Rattle.std.specs.Prelude.{length};
 ghost use Rattle.std.specs.Iterator.{at_most};
 
-use record::{Call, Read};
+use quantities::number_met;
+use record::{Call, Read, check_call};
 use std::alloc::Global;
 use std::fmt;
 use std::io::{self, BufWriter, Read as _, Write};
@@ -60,8 +61,8 @@ fn show_written<W: Write>(
     mut buffer: Vec<u8>,
 ) -> io::Result<()> {
     match record::write(call, readings, &mut buffer) {
-        0 => writeln!(out, " {}", Hex(&buffer)),
-        number => writeln!(out, " {number}"),
+        Ok(()) => writeln!(out, " {}", Hex(&buffer)),
+        Err(refusal) => writeln!(out, " {}", u32::from(refusal)),
     }
 }
 
@@ -82,7 +83,7 @@ fn show<W: Write>(out: &mut W, alloc: Global, item: &[u8]) -> io::Result<()> {
                 Hex(item.get(..2).unwrap_or_default())
             )?;
             show_fields(out, call)?;
-            write!(out, " {}", record::call_number(call, readings))?;
+            write!(out, " {}", number_met(check_call(call, readings)))?;
             show_written(out, call, readings, vec![in alloc; 0; next]?)
         }
         stop => writeln!(out, "stop {}", record::stop_number(stop)),

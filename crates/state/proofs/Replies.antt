@@ -5,12 +5,16 @@ use mathlib.Core.List.{List}
 use Prim.Native.Nat.{ℕ}
 use borrow.Author.Tests.{eqb-true}
 use lib.Dec.{eqb}
+use Rattle.std.specs.Prelude.{Err}
 use Rattle.basis.specs.Choice.{pick}
+use Rattle.quantities.specs.declared.refusals.Refusal.{Refusal}
+use Rattle.quantities.specs.Refusals.{refusal_number}
+use Rattle.quantities.proofs.RefusalLaws.{refusing}
 use Rattle.table.specs.Ranges.{call_number}
 use Rattle.table.specs.declared.calls.Call.{Call}
 use Rattle.state.specs.declared.kept.Book.{Book}
-use Rattle.state.specs.declared.kept.Reply.{Reply}
-use Rattle.state.specs.State.{ranged, reply_of}
+use Rattle.state.specs.State.{Reply}
+use Rattle.state.specs.State.{ranged, reply_of, replied}
 
 abbrev pub reply : ℕ → Book → Reply
 reply number b = record { number = number; book = b }
@@ -38,3 +42,7 @@ ranges_alone c rs mine theirs h = go (eqb (call_number c rs) 0) refl
     go : (t : Bool) → eqb (call_number c rs) 0 ≡ t → pick t mine (call_number c rs) ≡ pick t theirs (call_number c rs)
     go true q = h (eqb-true (call_number c rs) 0 q)
     go false q = refl
+
+-- a refusal tells the reply that its number defines: the old book
+pub refused_reply : (old new : Book) (refusal : Refusal) {n : ℕ} → refusal_number refusal ≡ n → replied old (Err refusal) ≡ reply_of n old new
+refused_reply old new refusal e = rw (← e, refusing refusal) refl

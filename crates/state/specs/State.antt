@@ -1,29 +1,34 @@
 -- What the book keeps, a fresh book, and what a reply is ("The book").
-use Rattle.std.specs.Prelude.{List, ℕ, ◌+◌, ◌-◌, ◌*◌, eqb, get_or, take, drop, replicate}
+use Rattle.std.specs.Prelude.{List, ℕ, ◌+◌, ◌-◌, ◌*◌, eqb, get_or, take, drop, replicate, Option, None, Some, Result, Ok, Err}
 use Rattle.basis.specs.Choice.{pick}
 use Rattle.power.specs.Power.{fresh}
+use Rattle.power.specs.declared.component.Components.{Components}
 use Rattle.quantities.specs.Limits.{units, producers, consumers}
 use Rattle.table.specs.Ranges.{call_number}
 use Rattle.table.specs.declared.calls.Call.{Call}
 use Rattle.state.specs.declared.kept.Stage.{Stage}
 use Rattle.state.specs.declared.kept.Stage.TheVariants.{Blank, Gathering, Firm, Closed}
-use Rattle.state.specs.declared.kept.Enrolment.TheVariants.{Vacant}
 use Rattle.state.specs.declared.kept.Unit.{Unit}
+use Rattle.state.specs.declared.kept.Figures.{Figures}
 use Rattle.state.specs.declared.kept.Declaration.{Declaration}
 use Rattle.state.specs.declared.kept.Declaration.TheVariants.{Undeclared, Declared}
-use Rattle.state.specs.declared.kept.Reading.TheVariants.{Unread}
 use Rattle.state.specs.declared.kept.Consumer.{Consumer}
 use Rattle.state.specs.declared.kept.CloseFigures.{CloseFigures}
 use Rattle.state.specs.declared.kept.Book.{Book}
-use Rattle.state.specs.declared.kept.Reply.{Reply}
+use Rattle.quantities.specs.declared.refusals.Refusal.{Refusal}
+use Rattle.quantities.specs.Refusals.{refusal_number}
+
+-- components with no test and no availability
+abbrev pub fresh_components : Components
+fresh_components = record { set = fresh; generator = fresh; storage = fresh }
 
 -- a unit that is not enrolled
 abbrev pub fresh_unit : Unit
-fresh_unit = record { enrolment = Vacant; set = fresh; generator = fresh; storage = fresh }
+fresh_unit = record { enrolment = None; components = fresh_components }
 
 -- a consumer without declaration and reading
 abbrev pub fresh_consumer : Consumer
-fresh_consumer = record { declaration = Undeclared; reading = Unread }
+fresh_consumer = record { declaration = Undeclared; reading = None }
 
 -- what a cell of the balances holds at most: 32 bits
 abbrev pub greatest_cell : ℕ
@@ -66,6 +71,11 @@ unit_at us u = get_or us (u - 1) fresh_unit
 
 abbrev pub consumer_at : List Consumer → ℕ → Consumer
 consumer_at xs c = get_or xs (c - 1) fresh_consumer
+
+-- the figures of who declared
+abbrev pub figures_of : Declaration → Option Figures
+figures_of Undeclared = None
+figures_of (Declared f) = Some f
 
 -- the firm demand in a declaration; "the undeclared have 0"
 abbrev pub firm_demand_by : Declaration → ℕ
@@ -140,6 +150,20 @@ ranged c readings rest = pick (eqb (call_number c readings) 0) rest (call_number
 abbrev pub staged : Stage → Stage → ℕ → ℕ
 staged own stage rest = pick (eqb (stage_number stage) (stage_number own)) rest 4
 
+-- what a call comes to: its number, 0 if accepted, and the book after it
+pub record Reply : Type 0 where
+  pub number : ℕ
+  pub book : Book
+
+-- a number, and a book
+abbrev pub reply_with : ℕ → Book → Reply
+reply_with number b = record { number = number; book = b }
+
 -- "a refused call returns its number and the old book"
 abbrev pub reply_of : ℕ → Book → Book → Reply
 reply_of number old new = record { number = number; book = pick (eqb number 0) new old }
+
+-- what the answer to a call on the old book tells
+abbrev pub replied : Book → Result Book Refusal → Reply
+replied old (Ok new) = record { number = 0; book = new }
+replied old (Err refusal) = record { number = refusal_number refusal; book = old }

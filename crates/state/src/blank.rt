@@ -2,10 +2,8 @@
 ghost use Rattle.std.specs.Prelude.{◌≡◌};
 ghost use Rattle.state.specs.State.{fresh_unit, no_figures, fresh_book};
 
-use crate::kept::{
-    Book, CELLS, CloseFigures, Consumer, Declaration, Enrolment, Reading, Stage, Unit,
-};
-use plant::{Hours, fresh_component};
+use crate::kept::{Book, CELLS, CloseFigures, Consumer, Declaration, Stage, Unit};
+use power::{Components, Hours, fresh_component};
 use quantities::{CONSUMERS, PRODUCERS, UNITS};
 
 // A unit that is not enrolled.
@@ -14,10 +12,12 @@ fn fresh_unit() -> Unit
 {
     let component = fresh_component();
     Unit {
-        enrolment: Enrolment::Vacant,
-        set: component,
-        generator: component,
-        storage: component,
+        enrolment: None,
+        components: Components {
+            set: component,
+            generator: component,
+            storage: component,
+        },
     }
 }
 
@@ -36,13 +36,13 @@ fn no_figures() -> CloseFigures
 }
 
 // A book that is blank, with no unit, test, availability, declaration, contract or reading.
+#[tactic(auto, unfolding(crate::specs::State::fresh_book))]
 pub fn fresh() -> Book
     ensures { result ≡ fresh_book }
 {
-    let unit = fresh_unit();
     let consumer = Consumer {
         declaration: Declaration::Undeclared,
-        reading: Reading::Unread,
+        reading: None,
     };
     Book {
         stage: Stage::Blank,
@@ -51,7 +51,7 @@ pub fn fresh() -> Book
             nhmd: 0,
             ndhmd: 0,
         },
-        units: [unit; UNITS],
+        units: [fresh_unit(); UNITS],
         consumers: [consumer; CONSUMERS],
         balances: [0; CELLS],
         dmp: 0,

@@ -1,12 +1,16 @@
 // What the book keeps ("The book").
-use plant::{Cap, Component, Hours, Plant};
+ghost use Rattle.std.specs.Prelude.{◌≡◌, is_some};
+ghost use Rattle.state.specs.State.{figures_of};
+
+use plant::Plant;
+use power::{Components, Hours, Kw};
 use quantities::{CONSUMERS, PRODUCERS, UNITS};
 
 // A cell for each pair of a producer and a consumer.
 pub const CELLS: usize = PRODUCERS * CONSUMERS;
 
 // The four stages, each leading to the next.
-#[derive(Clone, Copy)]
+#[derive(Clone, Copy, Debug, PartialEq, Eq)]
 pub enum Stage {
     Blank,
     Gathering,
@@ -19,23 +23,15 @@ pub enum Stage {
 pub struct Entry {
     pub producer: u32,
     pub flags: u32,
-    pub cap: Cap,
+    pub cap: Option<Kw>,
     pub plant: Plant,
 }
 
-#[derive(Clone, Copy)]
-pub enum Enrolment {
-    Vacant,
-    Enrolled(Entry),
-}
-
-// A unit: its enrolment and its components, 0 set, 1 generator, 2 storage.
+// A unit: its enrolment, if there is one, and its components.
 #[derive(Clone, Copy)]
 pub struct Unit {
-    pub enrolment: Enrolment,
-    pub set: Component,
-    pub generator: Component,
-    pub storage: Component,
+    pub enrolment: Option<Entry>,
+    pub components: Components,
 }
 
 // What a consumer declared, D and A, and its firm demand DF, 0 before the fix, all kW.
@@ -46,23 +42,35 @@ pub struct Figures {
     pub df: u32,
 }
 
+// An enum of the book's own: a consumer's record says that it is undeclared, or declared with figures.
 #[derive(Clone, Copy)]
 pub enum Declaration {
     Undeclared,
     Declared(Figures),
 }
 
-// A consumer's last reading of real demand, kW.
-#[derive(Clone, Copy)]
-pub enum Reading {
-    Unread,
-    Metered(u32),
+impl Declaration {
+    // The figures of who declared.
+    pub fn figures(self) -> Option<Figures>
+        ensures { result ≡ figures_of self }
+    {
+        match self {
+            Declaration::Undeclared => None,
+            Declaration::Declared(figures) => Some(figures),
+        }
+    }
+
+    pub fn is_declared(self) -> bool
+        ensures { result ≡ is_some (figures_of self) }
+    {
+        matches!(self, Declaration::Declared(_))
+    }
 }
 
 #[derive(Clone, Copy)]
 pub struct Consumer {
     pub declaration: Declaration,
-    pub reading: Reading,
+    pub reading: Option<u32>,
 }
 
 // The figures of the close: each consumer's DFA in kW, charge and credit in cents, their sums, and what is distributed to nobody.
@@ -91,11 +99,4 @@ pub struct Book {
     pub limits: [u32; PRODUCERS],
     // From the close on.
     pub closing: CloseFigures,
-}
-
-// The number of a call, 0 if accepted, and the book after it.
-#[derive(Clone, Copy)]
-pub struct Reply {
-    pub number: u32,
-    pub book: Book,
 }

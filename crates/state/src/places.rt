@@ -10,13 +10,11 @@ fn place_of(greatest: usize, number: u32) -> usize
     ensures { result ≡ place_of greatest number }
 {
     let n = number as usize;
-    if n == 0 {
-        return 0;
+    if n <= greatest {
+        n.saturating_sub(1)
+    } else {
+        0
     }
-    if greatest < n {
-        return 0;
-    }
-    n - 1
 }
 
 // The place of a unit.

@@ -1,25 +1,31 @@
-// The four stages by their numbers.
+// The four stages by their numbers, and the stage that a call belongs to.
 ghost use Rattle.std.specs.Prelude.{◌≡◌};
-ghost use Rattle.state.specs.State.{stage_number};
+ghost use Rattle.quantities.specs.Refusals.{met};
+ghost use Rattle.state.specs.State.{stage_number, staged};
 
 use crate::kept::Stage;
+use quantities::Refusal;
 
-pub const BLANK: u32 = 0;
+impl From<Stage> for u32 {
+    ghost from_gives = { λ stage n. n ≡ stage_number stage };
 
-pub const GATHERING: u32 = 1;
+    fn from(stage: Stage) -> u32 {
+        match stage {
+            Stage::Blank => 0,
+            Stage::Gathering => 1,
+            Stage::Firm => 2,
+            Stage::Closed => 3,
+        }
+    }
+}
 
-pub const FIRM: u32 = 2;
-
-pub const CLOSED: u32 = 3;
-
-// The number of a stage.
-pub fn stage_number(stage: Stage) -> u32
-    ensures { result ≡ stage_number stage }
+// A call that belongs to a stage of its own is refused in another.
+pub fn check_stage(stage: Stage, own: Stage) -> Result<(), Refusal>
+    ensures { met result ≡ staged own stage 0 }
 {
-    match stage {
-        Stage::Blank => BLANK,
-        Stage::Gathering => GATHERING,
-        Stage::Firm => FIRM,
-        Stage::Closed => CLOSED,
+    if stage == own {
+        Ok(())
+    } else {
+        Err(Refusal::WrongStage)
     }
 }

@@ -1,66 +1,105 @@
 // The run of a journal in words: its counts, where and why the reading stopped, and the first refused record.
-// For our own crates and not for buyers, as `text` is: a function here requires that the buffer has room for what it puts.
+// For our own crates and not for buyers, as `text` is.
 #![tactic(auto)]
 
-ghost use Rattle.std.specs.Prelude.{◌+◌, ◌≤◌, length};
-ghost use Rattle.text.specs.Text.{Puts};
-ghost use Rattle.summary.specs.Summary.{counts, counts_most, stop_line, stop_most, first_line, first_most, summary_of, summary_most};
+ghost use Rattle.std.specs.Prelude.{◌≡◌, ◌≤◌, length};
+ghost use Rattle.summary.specs.Summary.{count_line, counts, reason, stop_line, first_line, summary_of};
 
-use journal::{FirstRefused, Run};
-use text::put_text;
-use words::{put_condition, put_figure};
+use journal::{Refused, Run};
+use text::{LONGEST_DECIMAL, Text, decimal};
+use words::{LONGEST_SAID, condition_line};
 
-// How many records were read, accepted and refused.
-fn put_counts(out: &mut [u8], at: usize, read: usize, accepted: usize, refused: usize) -> usize
-    requires { at + counts_most ≤ length out.old }
-    ensures { Puts counts_most (counts read accepted refused) out.old at result out.new }
+// The most bytes of the words before a number.
+const LONGEST_LABEL: usize = 29;
+
+// The most bytes of the line of a count, and of all three.
+const LONGEST_COUNT: usize = LONGEST_LABEL + LONGEST_DECIMAL + 1;
+
+const LONGEST_COUNTS: usize = 3 * LONGEST_COUNT;
+
+// The most bytes of a line that names a place, and of a run in words.
+const LONGEST_PLACED: usize = LONGEST_LABEL + LONGEST_DECIMAL + 2 + LONGEST_SAID;
+
+pub const LONGEST_SUMMARY: usize = LONGEST_COUNTS + 2 * LONGEST_PLACED;
+
+// Words and a count, with a line feed.
+#[tactic(auto, unfolding(crate::specs::Summary::count_line))]
+fn count_line(label: &str, count: usize) -> Text<LONGEST_COUNT>
+    requires { length label.now ≤ LONGEST_LABEL }
+    ensures { result ≡ count_line label.now count }
 {
-    let of_read = put_text(out, at, b"records read: ");
-    let behind_read = put_figure(out, of_read, read as u64);
-    let of_accepted = put_text(out, behind_read, b"\naccepted: ");
-    let behind_accepted = put_figure(out, of_accepted, accepted as u64);
-    let of_refused = put_text(out, behind_accepted, b"\nrefused: ");
-    let behind_refused = put_figure(out, of_refused, refused as u64);
-    put_text(out, behind_refused, b"\n")
+    let mut line = Text::new();
+    line.push_str(label);
+    line.push_text(&decimal(count as u64));
+    line.push(b'\n');
+    line
 }
 
-// Where the reading stopped, and why: the journal's end, or number 1 or 2.
-fn put_stop(out: &mut [u8], at: usize, stop: u32, place: usize) -> usize
-    requires { at + stop_most ≤ length out.old }
-    ensures { Puts stop_most (stop_line stop place) out.old at result out.new }
+// How many records were read, accepted and refused.
+#[tactic(auto, unfolding(crate::specs::Summary::counts))]
+fn counts(run: &Run) -> Text<LONGEST_COUNTS>
+    ensures { result ≡ counts run.now.read run.now.accepted run.now.refused }
 {
-    let byte = put_text(out, at, b"reading stopped at byte ");
-    let colon = put_figure(out, byte, place as u64);
+    let mut lines = Text::new();
+    lines.push_text(&count_line("records read: ", run.read));
+    lines.push_text(&count_line("accepted: ", run.accepted));
+    lines.push_text(&count_line("refused: ", run.refused));
+    lines
+}
+
+// Why the reading stopped: the journal's end, or number 1 or 2.
+#[tactic(auto, unfolding(crate::specs::Summary::reason))]
+fn reason(stop: u32) -> Text<LONGEST_SAID>
+    ensures { result ≡ reason stop }
+{
     if stop == 0 {
-        return put_text(out, colon, b": end of journal\n");
+        let mut line = Text::new();
+        line.push_str("end of journal\n");
+        line
+    } else {
+        condition_line(stop)
     }
-    let number = put_text(out, colon, b": ");
-    put_condition(out, number, stop)
+}
+
+// Where the reading stopped, and why.
+#[tactic(auto, unfolding(crate::specs::Summary::stop_line))]
+fn stop_line(run: &Run) -> Text<LONGEST_PLACED>
+    ensures { result ≡ stop_line run.now.stop run.now.place }
+{
+    let mut line = Text::new();
+    line.push_str("reading stopped at byte ");
+    line.push_text(&decimal(run.place as u64));
+    line.push_str(": ");
+    line.push_text(&reason(run.stop));
+    line
 }
 
 // Where the first refused record stands, and the number that it met; that there is none.
-fn put_first(out: &mut [u8], at: usize, first: FirstRefused) -> usize
-    requires { at + first_most ≤ length out.old }
-    ensures { Puts first_most (first_line first) out.old at result out.new }
+#[tactic(auto, unfolding(crate::specs::Summary::first_line))]
+fn first_line(first: Option<Refused>) -> Text<LONGEST_PLACED>
+    ensures { result ≡ first_line first }
 {
+    let mut line = Text::new();
     match first {
-        FirstRefused::Nothing => put_text(out, at, b"no record refused\n"),
-        FirstRefused::At { place, number } => {
-            let byte = put_text(out, at, b"first refused record at byte ");
-            let colon = put_figure(out, byte, place as u64);
-            let words = put_text(out, colon, b": ");
-            put_condition(out, words, number)
+        None => line.push_str("no record refused\n"),
+        Some(Refused { place, number }) => {
+            line.push_str("first refused record at byte ");
+            line.push_text(&decimal(place as u64));
+            line.push_str(": ");
+            line.push_text(&condition_line(number));
         }
     }
+    line
 }
 
-// The run in words, over the front of the buffer.
-pub fn put_summary(out: &mut [u8], run: Run) -> usize
-    requires { summary_most ≤ length out.old }
-    ensures { Puts summary_most (summary_of run) out.old 0 result out.new }
+// The run in words.
+#[tactic(auto, unfolding(crate::specs::Summary::summary_of))]
+pub fn summary(run: &Run) -> Text<LONGEST_SUMMARY>
+    ensures { result ≡ summary_of run.now }
 {
-    let first = run.first;
-    let stop = put_counts(out, 0, run.read, run.accepted, run.refused);
-    let named = put_stop(out, stop, run.stop, run.place);
-    put_first(out, named, first)
+    let mut text = Text::new();
+    text.push_text(&counts(run));
+    text.push_text(&stop_line(run));
+    text.push_text(&first_line(run.first));
+    text
 }

@@ -1,26 +1,31 @@
 -- Fields to bytes and back: one law for every list of widths.
 use mathlib.Core.Path.{◌≡◌, refl, sym, ap, ◌∙◌}
-use mathlib.Core.Bool.{Bool, true, false}
+use mathlib.Core.Bool.{Bool, true}
 use mathlib.Core.List.{List, [], ◌∷◌, ◌++◌, append_assoc}
-use Prim.Native.Nat.{ℕ, zero, suc, ◌^◌, ◌≤◌, ◌<◌}
+use Prim.Native.Nat.{ℕ, zero, suc, min, ◌+◌, ◌^◌, ◌≤◌, ◌<◌}
+use native.Mathlib.Numerals.{add-one}
+use native.Mathlib.Nat.{le_of_suc-le-suc, not-suc-le-zero}
 use native.Mathlib.Omega.{arith}
 use borrow.Author.Tests.{ltb-true}
 use lib.Dec.{ltb}
-use lib.ListN.{length, get_or, take, drop, take-append-drop, length-append, length-drop}
-use lib.Seq.{take_at, drop_at, drop-drop, take-add, take-append-le, drop-append-le, length-take-le}
-use Rattle.basis.specs.Choice.{pick, between}
-use Rattle.basis.specs.Numbers.{Bytes, number, bytes_of, number_at}
+use lib.ListN.{length, get_or, set, take, drop, take-append-drop, length-append, length-drop}
+use lib.Seq.{drop-cons, take-suc, take-suc-set, take_at, drop_at, take-add, take-append-le, drop-append-le, length-take-le}
+use Rattle.std.specs.List.{list_all}
+use Rattle.std.proofs.lemmas.Bool.{and_parts}
+use Rattle.std.proofs.lemmas.List.{take_min, drop_min}
+use Rattle.basis.specs.Choice.{between}
+use Rattle.basis.specs.Numbers.{Bytes, number, bytes_of}
 use Rattle.basis.specs.Sums.{sum}
-use Rattle.basis.proofs.Choice.{both_true, between_true}
+use Rattle.basis.proofs.Choice.{between_true}
 use Rattle.basis.proofs.Sums.{sum-cons}
 use Rattle.basis.proofs.Numbers.{length-bytes_of, number-bytes_of, bytes_of-number, bytes_take, bytes_drop}
 use Rattle.table.specs.Fields.{encode, decode, within_all}
+use Rattle.table.specs.Records.{widths_of}
+use Rattle.table.specs.declared.lines.Column.{Column}
 
 -- each greatest value fits its width
-unfoldable pub fit_all : List ℕ → List ℕ → Bool
-fit_all [] gs = true
-fit_all (w ∷ ws) [] = false
-fit_all (w ∷ ws) (g ∷ gs) = pick (ltb g (256 ^ w)) (fit_all ws gs) false
+abbrev pub fit_all : List Column → Bool
+fit_all columns = list_all (λ (f : Column). ltb f.greatest (256 ^ f.width)) columns
 
 pub length-encode : (ws vs : List ℕ) → length vs ≡ length ws → length (encode ws vs) ≡ sum ws
 unfolding encode
@@ -36,19 +41,27 @@ length-decode [] s = refl
 length-decode (w ∷ ws) s = ap suc (length-decode ws (drop w s))
 
 -- values in their ranges, written and read, are what they were, whatever stands behind
-pub decode-encode : (ws ls gs vs rest : List ℕ) → length ls ≡ length ws → length vs ≡ length ws → fit_all ws gs ≡ true → within_all ls gs vs ≡ true → decode ws (encode ws vs ++ rest) ≡ vs
-unfolding encode decode fit_all within_all
-decode-encode [] ls gs [] rest hl hv hf hw = refl
-decode-encode [] ls gs (v ∷ vs) rest hl hv hf hw = absurd (omega arith)
-decode-encode (w ∷ ws) [] gs vs rest hl hv hf hw = absurd (omega arith)
-decode-encode (w ∷ ws) (l ∷ ls) [] vs rest hl hv hf hw = absurd (mathlib.Core.Bool.false≢true hf)
-decode-encode (w ∷ ws) (l ∷ ls) (g ∷ gs) [] rest hl hv hf hw = absurd (omega arith)
-decode-encode (w ∷ ws) (l ∷ ls) (g ∷ gs) (v ∷ vs) rest hl hv hf hw =
-    let f = both_true (ltb g (256 ^ w)) (fit_all ws gs) hf in
-    let r = both_true (between l g v) (within_all ls gs vs) hw in
-    let b : v < 256 ^ w = omega (arith, ltb-true g (256 ^ w) f.0, between_true l g v r.0) in
+pub decode-encode : (cs : List Column) (vs rest : List ℕ) → length vs ≡ length cs → fit_all cs ≡ true → within_all cs vs ≡ true → decode (widths_of cs) (encode (widths_of cs) vs ++ rest) ≡ vs
+unfolding encode decode
+decode-encode [] [] rest h f r = refl
+decode-encode [] (v ∷ vs) rest h f r = absurd (omega arith)
+decode-encode (c ∷ cs) [] rest h f r = absurd (omega arith)
+decode-encode (c ∷ cs) (v ∷ vs) rest h f r =
+    let fits = and_parts (ltb c.greatest (256 ^ c.width)) (fit_all cs) f in
+    let holds = and_parts (between c.least c.greatest v) (within_all cs vs) r in
+    let w : ℕ = c.width in
+    let ws : List ℕ = widths_of cs in
+    let b : v < 256 ^ c.width = omega (arith, ltb-true c.greatest (256 ^ c.width) fits.0, between_true c.least c.greatest v holds.0) in
     let e : length (bytes_of w v) ≡ w = length-bytes_of w v in
-    rw (append_assoc (bytes_of w v) (encode ws vs) rest, take_at (bytes_of w v) (encode ws vs ++ rest) w e, drop_at (bytes_of w v) (encode ws vs ++ rest) w e, number-bytes_of w v b, decode-encode ws ls gs vs rest (omega arith) (omega arith) f.1 r.1)
+    rw (append_assoc (bytes_of w v) (encode ws vs) rest, take_at (bytes_of w v) (encode ws vs ++ rest) w e, drop_at (bytes_of w v) (encode ws vs ++ rest) w e, number-bytes_of w v b, decode-encode cs vs rest (omega arith) fits.1 holds.1)
+
+-- values in their ranges, one by one
+pub within_at : (cs : List Column) (vs : List ℕ) (none : Column) → within_all cs vs ≡ true → (i : ℕ) → i < length cs → i < length vs → ((get_or cs i none).least ≤ get_or vs i 0) × (get_or vs i 0 ≤ (get_or cs i none).greatest)
+within_at [] vs none e i p q = absurd (not-suc-le-zero p)
+within_at (c ∷ cs) [] none e i p q = absurd (not-suc-le-zero q)
+within_at (c ∷ cs) (v ∷ vs) none e zero p q = between_true c.least c.greatest v (and_parts (between c.least c.greatest v) (within_all cs vs) e).0
+within_at (c ∷ cs) (v ∷ vs) none e (suc i) p q =
+    within_at cs vs none (and_parts (between c.least c.greatest v) (within_all cs vs) e).1 i (le_of_suc-le-suc p) (le_of_suc-le-suc q)
 
 -- bytes, read and written, are what they were
 pub encode-decode : (ws s : List ℕ) → Bytes s → sum ws ≤ length s → encode ws (decode ws s) ≡ take (sum ws) s
@@ -76,12 +89,15 @@ decode-append (w ∷ ws) s more k =
 pub decode_part : (ws s : List ℕ) (n : ℕ) → sum ws ≤ length (take n s) → decode ws (take n s) ≡ decode ws s
 decode_part ws s n h = sym (decode-append ws (take n s) (drop n s) h) ∙ ap (decode ws) (take-append-drop n s)
 
--- a field stands behind those before it, in its width; behind the last there is none
-pub decode_at : (ws s : List ℕ) (i : ℕ) → get_or (decode ws s) i 0 ≡ number_at (get_or ws i 0) s (sum (take i ws))
-unfolding decode number
-decode_at [] s zero = refl
-decode_at [] s (suc i) = refl
-decode_at (w ∷ ws) s zero = refl
-decode_at (w ∷ ws) s (suc i) =
-    decode_at ws (drop w s) i
-    ∙ ap (λ (l : List ℕ). number (take (get_or ws i 0) l)) (drop-drop (sum (take i ws)) w s ∙ ap (λ n. drop n s) (sym (sum-cons w (take i ws))))
+-- one turn of a loop that decodes: the next value joins those that are there, and its bytes leave the rest
+pub decode_turn : (ws s values all : List ℕ) (i n v : ℕ) → i < length ws → i < length values → length all ≡ length ws → take i values ≡ take i all → decode (drop i ws) s ≡ drop i all → n ≡ min (get_or ws i 0) (length s) → v ≡ number (take n s) → (take (i + 1) (set values i v) ≡ take (i + 1) all) × (decode (drop (i + 1) ws) (drop n s) ≡ drop (i + 1) all)
+unfolding decode
+decode_turn ws s values all i n v h k l a b en ev =
+    let w : ℕ = get_or ws i 0 in
+    let t : take n s ≡ take w s = ap (λ m. take m s) en ∙ take_min w s in
+    let d : drop n s ≡ drop w s = ap (λ m. drop m s) en ∙ drop_min w s in
+    let e : number (take w s) ∷ decode (drop (suc i) ws) (drop w s) ≡ get_or all i 0 ∷ drop (suc i) all =
+    ap (λ (x : List ℕ). decode x s) (sym (drop-cons ws i 0 h)) ∙ b ∙ drop-cons all i 0 (omega arith) in
+    let first : v ≡ get_or all i 0 = ev ∙ ap number t ∙ cc e in
+    let others : decode (drop (suc i) ws) (drop w s) ≡ drop (suc i) all = cc e in
+    (rw (add-one i, take-suc-set values i v k, take-suc all i 0 (omega arith), a, first) refl, rw (add-one i, d) others)

@@ -1,82 +1,66 @@
--- The laws of the records and the calls of a unit.
-use mathlib.Core.Path.{◌≡◌, refl}
+-- What a call of a unit in range shows of its fields.
+use mathlib.Core.Path.{◌≡◌}
 use mathlib.Core.Bool.{true}
 use mathlib.Core.List.{List}
 use Prim.Native.Nat.{ℕ, ◌≤◌}
 use native.Mathlib.Omega.{arith}
 use borrow.Author.Tests.{le-leb}
-use Rattle.basis.specs.Numbers.{number}
-use Rattle.basis.specs.Sums.{sum, all_at_most}
 use Rattle.quantities.specs.Limits.{units, producers, greatest_minutes, greatest_kind, greatest_component}
 use Rattle.power.specs.Ranges.{minutes_in_range}
-use Rattle.table.specs.Fields.{decode}
-use Rattle.table.specs.Records.{table_of, contract_marks, consumer_marks, unit_marks, form_of, find_mark, parts_of, call_of, readings_size}
-use Rattle.table.specs.Ranges.{rest_in_range, call_number}
+use Rattle.power.specs.declared.component.Minutes.{Minutes}
+use Rattle.power.specs.declared.component.Trial.{Trial}
+use Rattle.table.specs.Records.{table_of, parts_of}
+use Rattle.table.specs.Ranges.{call_number}
 use Rattle.table.specs.declared.calls.Call.TheVariants.{Unit}
+use Rattle.table.specs.declared.units.Enrolling.{Enrolling}
 use Rattle.table.specs.declared.units.UnitCall.{UnitCall}
 use Rattle.table.specs.declared.units.UnitCall.TheVariants.{Enrol, Test, Availability}
-use Rattle.table.specs.declared.units.UnitMark.{UnitMark}
-use Rattle.table.specs.declared.units.UnitMark.TheVariants as marked
 use Rattle.table.specs.declared.forms.Mark.TheVariants as mark
-use Rattle.table.proofs.Codec.{fit_all}
-use Rattle.table.proofs.Laws.{Lawful, lawful_by, OfParts, test-length, field_in_range, Numbered, numbered}
+use Rattle.table.proofs.Laws.{field_in_range, Numbered, numbered}
+use Rattle.table.proofs.Table.{lawful, of_parts}
 
-pub unit_lawful : (m : UnitMark) → Lawful (mark.Unit m)
-unfolding table_of form_of contract_marks consumer_marks unit_marks find_mark fit_all parts_of call_of readings_size decode number
-unit_lawful marked.Enrol = lawful_by refl refl refl refl refl refl refl refl refl refl refl (λ v. omega arith) (λ v e. refl) (λ s e. refl)
-unit_lawful marked.Test = lawful_by refl refl refl refl refl refl refl refl refl refl refl (λ v. omega arith) (λ v e. refl) (λ s e. refl)
-unit_lawful marked.Availability = lawful_by refl refl refl refl refl refl refl refl refl refl refl (λ v. omega arith) (λ v e. refl) (λ s e. refl)
-
-pub unit_of_parts : (unit : ℕ) (act : UnitCall) → OfParts (Unit unit act)
-unfolding table_of form_of parts_of call_of readings_size rest_in_range
-unit_of_parts unit (Enrol producer kind flags pic ppr e1 e2 cap) = record { again = λ e. refl; count = refl; lent = λ rs e. omega arith }
-unit_of_parts unit (Test component ending tc count) =
-    record { again = λ e. refl; count = refl; lent = λ rs e. omega (arith, test-length ending tc count rs e) }
-unit_of_parts unit (Availability component hd hmp hif hed) = record { again = λ e. refl; count = refl; lent = λ rs e. omega arith }
-
--- what a call in range shows of its fields
-pub record UnitRanged (u p k : ℕ) : Type 0 where
+pub record UnitRanged (u : ℕ) (e : Enrolling) : Type 0 where
   pub unit : Numbered units u
-  pub producer : Numbered producers p
-  pub kind : Numbered greatest_kind k
+  pub producer : Numbered producers e.producer
+  pub kind : Numbered greatest_kind e.kind
 
 pub record TestRanged (u k : ℕ) : Type 0 where
   pub unit : Numbered units u
   pub component : k ≤ greatest_component
 
-pub record AvailabilityRanged (u k hd hmp hif hed : ℕ) : Type 0 where
+pub record AvailabilityRanged (u k : ℕ) (m : Minutes) : Type 0 where
   pub unit : Numbered units u
   pub component : k ≤ greatest_component
-  pub minutes : minutes_in_range hd hmp hif hed ≡ true
+  pub minutes : minutes_in_range m.hd m.hmp m.hif m.hed ≡ true
 
-pub unit-ranged : (unit producer kind flags pic ppr e1 e2 cap : ℕ) (rs : List ℕ) → call_number (Unit unit (Enrol producer kind flags pic ppr e1 e2 cap)) rs ≡ 0 → UnitRanged unit producer kind
+pub unit-ranged : (unit : ℕ) (enrolling : Enrolling) (rs : List ℕ) → call_number (Unit unit (Enrol enrolling)) rs ≡ 0 → UnitRanged unit enrolling
 unfolding table_of parts_of
-unit-ranged unit producer kind flags pic ppr e1 e2 cap rs e =
-    let act = Enrol producer kind flags pic ppr e1 e2 cap in
-    let f = field_in_range (Unit unit act) (unit_lawful marked.Enrol) (unit_of_parts unit act) rs e in
+unit-ranged unit enrolling rs e =
+    let c = Unit unit (Enrol enrolling) in
+    let f = field_in_range c (lawful mark.Enrol) (of_parts c) rs e in
     record { unit = numbered (f 0 (omega arith)); producer = numbered (f 1 (omega arith)); kind = numbered (f 2 (omega arith)) }
 
-pub test-ranged : (unit component ending tc count : ℕ) (rs : List ℕ) → call_number (Unit unit (Test component ending tc count)) rs ≡ 0 → TestRanged unit component
+pub test-ranged : (unit component : ℕ) (trial : Trial) (rs : List ℕ) → call_number (Unit unit (Test component trial)) rs ≡ 0 → TestRanged unit component
 unfolding table_of parts_of
-test-ranged unit component ending tc count rs e =
-    let act = Test component ending tc count in
-    let f = field_in_range (Unit unit act) (unit_lawful marked.Test) (unit_of_parts unit act) rs e in
+test-ranged unit component trial rs e =
+    let c = Unit unit (Test component trial) in
+    let f = field_in_range c (lawful mark.Test) (of_parts c) rs e in
     record { unit = numbered (f 0 (omega arith)); component = (f 1 (omega arith)).1 }
 
-pub availability-ranged : (unit component hd hmp hif hed : ℕ) (rs : List ℕ) → call_number (Unit unit (Availability component hd hmp hif hed)) rs ≡ 0 → AvailabilityRanged unit component hd hmp hif hed
+pub availability-ranged : (unit component : ℕ) (m : Minutes) (rs : List ℕ) → call_number (Unit unit (Availability component m)) rs ≡ 0 → AvailabilityRanged unit component m
 unfolding table_of parts_of
-availability-ranged unit component hd hmp hif hed rs e =
-    let act = Availability component hd hmp hif hed in
-    let f = field_in_range (Unit unit act) (unit_lawful marked.Availability) (unit_of_parts unit act) rs e in
+availability-ranged unit component m rs e =
+    let c = Unit unit (Availability component m) in
+    let f = field_in_range c (lawful mark.Availability) (of_parts c) rs e in
     record {
       unit = numbered (f 0 (omega arith));
       component = (f 1 (omega arith)).1;
       minutes =
-          rw (le-leb hd greatest_minutes (f 2 (omega arith)).1, le-leb hmp greatest_minutes (f 3 (omega arith)).1, le-leb hif greatest_minutes (f 4 (omega arith)).1, le-leb hed greatest_minutes (f 5 (omega arith)).1);
+          rw (le-leb m.hd greatest_minutes (f 2 (omega arith)).1, le-leb m.hmp greatest_minutes (f 3 (omega arith)).1, le-leb m.hif greatest_minutes (f 4 (omega arith)).1, le-leb m.hed greatest_minutes (f 5 (omega arith)).1);
     }
 
 -- the unit of any call in range
 pub unit-numbered : (unit : ℕ) (act : UnitCall) (rs : List ℕ) → call_number (Unit unit act) rs ≡ 0 → Numbered units unit
-unit-numbered unit (Enrol producer kind flags pic ppr e1 e2 cap) rs e = (unit-ranged unit producer kind flags pic ppr e1 e2 cap rs e).unit
-unit-numbered unit (Test component ending tc count) rs e = (test-ranged unit component ending tc count rs e).unit
-unit-numbered unit (Availability component hd hmp hif hed) rs e = (availability-ranged unit component hd hmp hif hed rs e).unit
+unit-numbered unit (Enrol enrolling) rs e = (unit-ranged unit enrolling rs e).unit
+unit-numbered unit (Test component trial) rs e = (test-ranged unit component trial rs e).unit
+unit-numbered unit (Availability component m) rs e = (availability-ranged unit component m rs e).unit

@@ -3,10 +3,11 @@ use Rattle.std.specs.Prelude.{Bool, true, false, not, List, ℕ, eqb}
 use Rattle.basis.specs.Choice.{pick, between}
 use Rattle.quantities.specs.Flags.{injection_given, report_held, flagged}
 use Rattle.power.specs.Ranges.{test_in_range}
-use Rattle.table.specs.Records.{parts_of, form_of, least_of, greatest_of}
+use Rattle.table.specs.Records.{table_of, parts_of, form_of}
 use Rattle.table.specs.Fields.{within_all}
 use Rattle.table.specs.declared.calls.Call.{Call}
 use Rattle.table.specs.declared.calls.Call.TheVariants.{Year, Fix, Close, Unit, Consumer, Contract}
+use Rattle.table.specs.declared.units.Enrolling.{Enrolling}
 use Rattle.table.specs.declared.units.UnitCall.{UnitCall}
 use Rattle.table.specs.declared.units.UnitCall.TheVariants.{Enrol, Test, Availability}
 use Rattle.table.specs.declared.forms.Fields.{Fields}
@@ -32,13 +33,13 @@ abbrev pub zero_unless : Bool → ℕ → Bool
 zero_unless used x = pick used true (eqb x 0)
 
 -- the flags and fields of a unit that its kind and flags do not use are 0: PIC is used where it is given
-unfoldable pub unused_zero : Uses → ℕ → ℕ → ℕ → ℕ → ℕ → ℕ → Bool
-unused_zero used flags pic ppr e1 e2 cap =
-    pick (unset_unless used.report (flagged report_held flags))
-    (pick (zero_unless (flagged injection_given flags) pic)
-    (pick (zero_unless used.ppr ppr)
-    (pick (zero_unless used.e1 e1)
-    (pick (zero_unless used.e2 e2) (zero_unless used.cap cap) false)
+unfoldable pub unused_zero : Uses → Enrolling → Bool
+unused_zero used e =
+    pick (unset_unless used.report (flagged report_held e.flags))
+    (pick (zero_unless (flagged injection_given e.flags) e.pic)
+    (pick (zero_unless used.ppr e.ppr)
+    (pick (zero_unless used.e1 e.e1)
+    (pick (zero_unless used.e2 e.e2) (zero_unless used.cap e.cap) false)
     false)
     false)
     false)
@@ -46,13 +47,13 @@ unused_zero used flags pic ppr e1 e2 cap =
 
 -- what the ranges of a unit's single fields leave
 abbrev pub unit_in_range : UnitCall → List ℕ → Bool
-unit_in_range (Enrol producer kind flags pic ppr e1 e2 cap) readings = unused_zero (uses_of kind) flags pic ppr e1 e2 cap
-unit_in_range (Test component ending tc count) readings = test_in_range ending tc count readings
-unit_in_range (Availability component hd hmp hif hed) readings = true
+unit_in_range (Enrol e) readings = unused_zero (uses_of e.kind) e
+unit_in_range (Test component t) readings = test_in_range t.ending t.tc t.count readings
+unit_in_range (Availability component m) readings = true
 
 -- what the ranges of single fields leave; what is lent with a call other than a test is ignored
 unfoldable pub rest_in_range : Call → List ℕ → Bool
-rest_in_range (Year nhrm nhmd ndhmd) readings = true
+rest_in_range (Year h) readings = true
 rest_in_range (Fix dmp) readings = true
 rest_in_range (Close p) readings = true
 rest_in_range (Unit unit act) readings = unit_in_range act readings
@@ -61,7 +62,7 @@ rest_in_range (Contract producer consumer act) readings = true
 
 -- each field of the call stands in its range of the table
 abbrev pub fields_in_range : Call → Bool
-fields_in_range c = within_all (least_of (parts_of c).mark) (greatest_of (parts_of c).mark) (parts_of c).values
+fields_in_range c = within_all (table_of (parts_of c).mark).columns (parts_of c).values
 
 -- 3 where a field of the call is out of range, else 0
 unfoldable pub fields_number : Call → ℕ
@@ -71,7 +72,6 @@ fields_number c = pick (fields_in_range c) 0 3
 unfoldable pub call_number : Call → List ℕ → ℕ
 call_number c readings = pick (eqb (fields_number c) 0) (pick (rest_in_range c readings) 0 3) (fields_number c)
 
--- a call's fields as its record has them: the form, the values, and whether each is in range
+-- a call's fields as its record has them: the form and the values
 unfoldable pub fields_of : Call → Fields
-fields_of c =
-    record { form = form_of (parts_of c).mark; values = (parts_of c).values; in_range = fields_in_range c }
+fields_of c = record { form = form_of (parts_of c).mark; values = (parts_of c).values }

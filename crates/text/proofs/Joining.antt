@@ -1,13 +1,12 @@
--- Texts one after the other, and the loops that put them.
+-- Texts one after the other.
 use mathlib.Core.Path.{◌≡◌, refl, sym, ap, ◌∙◌}
 use mathlib.Core.List.{List, [], ◌++◌, append_assoc, append-nil}
-use Prim.Native.Nat.{ℕ, zero, suc, ◌+◌, ◌-◌, ◌*◌, ◌≤◌, ◌<◌}
+use Prim.Native.Nat.{ℕ, zero, suc, ◌+◌, ◌-◌, ◌≤◌, ◌<◌}
 use native.Mathlib.Nat.{add-zero, add-suc, suc-add, zero-add, le_refl}
 use native.Mathlib.Numerals.{add-one}
 use native.Mathlib.Omega.{arith}
 use lib.ListN.{length, length-append}
-use Rattle.text.specs.Text.{Puts, line_most, joined, joined_from}
-use Rattle.text.proofs.Putting.{puts_none, puts_then, puts_as, puts_within}
+use Rattle.text.specs.Text.{joined, joined_from}
 
 joined_from_more : (f : ℕ → List ℕ) (i n : ℕ) → joined_from f i (suc n) ≡ joined_from f i n ++ f (i + n)
 unfolding joined_from
@@ -55,15 +54,7 @@ joined-short f (suc n) h =
     let e : length (joined f (n + 1)) ≡ length (joined f (suc n)) = ap (λ m. length (joined f m)) (add-one n) in
     omega (arith, e, joined-short f n h, length-joined_more f n, h n)
 
--- no text, where a line might be
-pub puts_no_line : (old : List ℕ) (at : ℕ) → Puts line_most [] old at at old
-puts_no_line old at = puts_within (omega arith) (puts_none old at)
-
--- where a loop that puts texts begins
-pub puts_joined_none : (f : ℕ → List ℕ) (old : List ℕ) (at : ℕ) → Puts 0 (joined f 0) old at at old
+-- no text
+pub joined_none : (f : ℕ → List ℕ) → joined f 0 ≡ []
 unfolding joined_from
-puts_joined_none f old at = puts_none old at
-
--- one turn of it
-pub puts_joined : (f : ℕ → List ℕ) (i : ℕ) {old mid new : List ℕ} {at p q : ℕ} → at + i * line_most ≤ length old → Puts (i * line_most) (joined f i) old at p mid → Puts line_most (f i) mid p q new → Puts ((i + 1) * line_most) (joined f (i + 1)) old at q new
-puts_joined f i h x y = puts_within (omega arith) (puts_as (sym (joined_more f i)) (puts_then h x y))
+joined_none f = refl

@@ -1,5 +1,4 @@
--- Laws of text in a buffer.
-pub mod Putting
-pub mod Joining
-pub mod Pieces
+-- Laws of text in fixed memory.
+pub mod Digits
 pub mod Alignment
+pub mod Joining

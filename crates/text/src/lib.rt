@@ -1,140 +1,117 @@
-// Text in a buffer of bytes: amounts in decimal digits, and lines of them.
-// For our own crates and not for buyers, as `basis` is: a function here requires that the buffer has room for what it puts.
+// Text in fixed memory: amounts in decimal digits, in columns, and in lines.
+// For our own crates and not for buyers, as `basis` is: a function here requires that there is room for what it puts.
 #![tactic(auto)]
 
-mod columns; // columns.rt: amounts in columns
+mod amounts; // amounts.rt: amounts in decimal digits, in columns, and in lines
 
-ghost use Rattle.std.specs.Prelude.{◌≡◌, [], ◌∷◌, ◌+◌, ◌*◌, ◌≤◌, length, take};
-ghost use Rattle.text.specs.Text.{Puts, amount_most, spaced_most, line_amounts, line_most, decimal, amount_of, spaced, text_of, plain, numbered};
+ghost use Rattle.std.specs.Prelude.{◌≡◌, List, [], ◌∷◌, ◌++◌, ℕ, ◌+◌, ◌*◌, ◌<◌, ◌≤◌, length, take};
+ghost use Rattle.text.specs.Text.{joined};
 
-pub use columns::put_column;
+pub use amounts::{Amount, LONGEST_AMOUNT, LONGEST_DECIMAL, LONGEST_LINE, decimal, line};
+use std::marker::Model;
 
-// An amount with its sign: plus less minus.
-#[derive(Clone, Copy)]
-pub struct Amount {
-    pub plus: u64,
-    pub minus: u64,
+// A text of at most N bytes, which lie in the value itself.
+#[derive(Drop)]
+pub struct Text<const N: usize> {
+    bytes: [u8; N],
+    len: usize,
 }
 
-// The most amounts of a line.
-pub const LINE_AMOUNTS: usize = 3;
+impl<const N: usize> Model for Text<N> {
+    ghost use Rattle.std.specs.Prelude.{List, ℕ, ◌≤◌, take};
 
-// The most bytes of an amount, a sign and twenty digits; of a line, its letter, amounts each behind a blank, and a line feed.
-pub const LONGEST_AMOUNT: usize = 21;
+    ghost Value = { List ℕ };
 
-pub const LONGEST_LINE: usize = LINE_AMOUNTS * (LONGEST_AMOUNT + 1) + 2;
+    ghost view = { λ t. take t.len t.bytes };
 
-// A line: its letter, and the first `count` of the amounts.
-#[derive(Clone, Copy)]
-pub struct Line {
-    pub letter: u8,
-    pub count: usize,
-    pub amounts: [Amount; LINE_AMOUNTS],
+    ghost invariant = { λ t. t.len ≤ N };
 }
 
-// A number, which has no sign.
-pub fn unsigned(x: u64) -> Amount
-    ensures { result ≡ plain x }
-{
-    Amount { plus: x, minus: 0 }
-}
+impl<const N: usize> Text<N> {
+    pub fn new() -> Self
+        ensures { result ≡ [] }
+    {
+        Text {
+            bytes: [0; N],
+            len: 0,
+        }
+    }
 
-// A line of numbers, of which the first `count` are shown.
-pub fn numbers(letter: u8, count: usize, a: u64, b: u64, c: u64) -> Line
-    ensures { result ≡ numbered letter count a b c }
-{
-    Line {
-        letter,
-        count,
-        amounts: [unsigned(a), unsigned(b), unsigned(c)],
+    // The first bytes of an array.
+    pub fn front(bytes: [u8; N], len: usize) -> Self
+        requires { len ≤ N }
+        ensures { result ≡ take len bytes.entry }
+    {
+        Text { bytes, len }
+    }
+
+    pub fn len(&self) -> usize
+        ensures value { result ≡ length self.now }
+        ensures fits { result ≤ N }
+    {
+        self.len
+    }
+
+    pub fn as_bytes(&self) -> &[u8]
+        ensures value { result.now ≡ self.now }
+        ensures fits { length result.now ≤ N }
+    {
+        &self.bytes[..self.len]
+    }
+
+    pub fn push(&mut self, byte: u8)
+        requires { length self.old < N }
+        ensures { self.new ≡ self.old ++ byte ∷ [] }
+    {
+        self.bytes[self.len] = byte;
+        self.len += 1;
+    }
+
+    pub fn push_bytes(&mut self, bytes: &[u8])
+        requires { length self.old + length bytes.now ≤ N }
+        ensures { self.new ≡ self.old ++ bytes.now }
+    {
+        let end = self.len + bytes.len();
+        let all = &mut self.bytes[..];
+        all[self.len..end].copy_from_slice(bytes);
+        self.len = end;
+    }
+
+    pub fn push_str(&mut self, text: &str)
+        requires { length self.old + length text.now ≤ N }
+        ensures { self.new ≡ self.old ++ text.now }
+    {
+        self.push_bytes(text.as_bytes());
+    }
+
+    // Another text, where there is room for the longest of its kind.
+    pub fn push_text<const M: usize>(&mut self, other: &Text<M>)
+        requires { length self.old + M ≤ N }
+        ensures text { self.new ≡ self.old ++ other.now }
+        ensures room { length self.new ≤ length self.old + M }
+    {
+        self.push_bytes(other.as_bytes());
+    }
+
+    // The texts of 0, 1, .., one behind the other, where there is room for the longest of each.
+    pub fn join<F: Fn(usize) -> Text<LONGEST_LINE>>(count: usize, text: F) -> Self
+        requires callable { (i : ℕ) → i < count → F.pre text i }
+        requires room { count * LONGEST_LINE ≤ N }
+        ensures { (f : ℕ → List ℕ) → ((i : ℕ) (t : List ℕ) → i < count → F.post text i t → t ≡ f i) → result ≡ joined f count }
+    {
+        let mut texts = Text::new();
+        for i in 0..count {
+            texts.push_text(&text(i));
+        }
+        texts
     }
 }
 
-pub fn put_byte(out: &mut [u8], at: usize, byte: u8) -> usize
-    requires { at + 1 ≤ length out.old }
-    ensures { Puts 1 (byte ∷ []) out.old at result out.new }
-{
-    out[at] = byte;
-    at + 1
-}
+// A text that fills its memory.
+impl<const N: usize> From<[u8; N]> for Text<N> {
+    ghost from_gives = { λ bytes t. t ≡ bytes };
 
-// The bytes of a text.
-pub fn put_text(out: &mut [u8], at: usize, text: &[u8]) -> usize
-    requires { at + length text.now ≤ length out.old }
-    ensures { Puts (length text.now) text.now out.old at result out.new }
-{
-    let mut i = 0;
-    while i < text.len() {
-        out[at + i] = text[i];
-        i += 1;
+    fn from(bytes: [u8; N]) -> Self {
+        Text { bytes, len: N }
     }
-    at + text.len()
-}
-
-// The decimal digits of x.
-pub fn put_decimal(out: &mut [u8], at: usize, x: u64) -> usize
-    requires { at + length (decimal x) ≤ length out.old }
-    ensures { Puts (length (decimal x)) (decimal x) out.old at result out.new }
-{
-    if x < 10 {
-        return put_byte(out, at, 48 + x as u8);
-    }
-    let last = put_decimal(out, at, x / 10);
-    put_byte(out, last, 48 + (x % 10) as u8)
-}
-
-// The amount, with a minus sign directly before its digits where it is below 0.
-pub fn put_amount(out: &mut [u8], at: usize, amount: Amount) -> usize
-    requires { at + amount_most ≤ length out.old }
-    ensures { Puts amount_most (amount_of amount) out.old at result out.new }
-{
-    let plus = amount.plus;
-    let minus = amount.minus;
-    if plus < minus {
-        let digits = put_byte(out, at, b'-');
-        return put_decimal(out, digits, minus - plus);
-    }
-    put_decimal(out, at, plus - minus)
-}
-
-// A blank and the amount.
-pub(crate) fn put_spaced(out: &mut [u8], at: usize, amount: Amount) -> usize
-    requires { at + spaced_most ≤ length out.old }
-    ensures { Puts spaced_most (spaced (amount ∷ [])) out.old at result out.new }
-{
-    let first = put_byte(out, at, b' ');
-    put_amount(out, first, amount)
-}
-
-// The first `count` of the amounts, each behind a blank.
-pub(crate) fn put_amounts(
-    out: &mut [u8],
-    at: usize,
-    count: usize,
-    amounts: [Amount; LINE_AMOUNTS],
-) -> usize
-    requires { (count ≤ line_amounts) × (at + count * spaced_most ≤ length out.old) }
-    ensures { Puts (count * spaced_most) (spaced (take count amounts)) out.old at result out.new }
-{
-    let mut place = at;
-    let mut i = 0;
-    while i < count {
-        let amount = amounts[i];
-        place = put_spaced(out, place, amount);
-        i += 1;
-    }
-    place
-}
-
-// The line, with its line feed.
-pub fn put_line(out: &mut [u8], at: usize, line: Line) -> usize
-    requires { (line.count ≤ line_amounts) × (at + line_most ≤ length out.old) }
-    ensures { Puts line_most (text_of line) out.old at result out.new }
-{
-    let letter = line.letter;
-    let count = line.count;
-    let amounts = line.amounts;
-    let first = put_byte(out, at, letter);
-    let end = put_amounts(out, first, count, amounts);
-    put_byte(out, end, b'\n')
 }

@@ -1,2 +1,2 @@
--- Laws of texts that are put piece by piece.
-pub mod Pieces
+-- Laws of calls in words.
+pub mod Readings

@@ -1,5 +1,4 @@
 -- Definitions of the words for numbers and calls.
-pub mod Phrases
 pub mod Numbers
 pub mod Conditions
 pub mod Calls

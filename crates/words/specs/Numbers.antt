@@ -1,43 +1,40 @@
 -- The numbered replies in words.
-use Rattle.std.specs.Prelude.{List, [], ◌∷◌, ◌++◌, ℕ, ◌*◌, get_or}
-use Rattle.text.specs.Text.{decimal, line_most, bytes}
+use Rattle.std.specs.Prelude.{List, [], ◌∷◌, ◌++◌, ℕ, get_or, codes}
+use Rattle.text.specs.Text.{decimal}
 
 -- the table of "Numbered replies" in short words, from 0 on
 unfoldable pub meanings : List (List ℕ)
 meanings =
-    bytes "accepted"
-    ∷ bytes "record cut short"
-    ∷ bytes "unknown mark"
-    ∷ bytes "field outside its range"
-    ∷ bytes "not in this stage"
-    ∷ bytes "unit already enrolled"
-    ∷ bytes "unit not enrolled"
-    ∷ bytes "component foreign to kind"
-    ∷ bytes "count of readings against the full time"
-    ∷ bytes "minutes that cannot be"
-    ∷ bytes "consumer not declared"
-    ∷ bytes "above the producer's efficient offers"
-    ∷ bytes "above the pair's balance"
-    ∷ bytes "weights sum to 0"
-    ∷ bytes "adjusted demand above 3,000,000 kW"
-    ∷ bytes "buffer too short"
+    codes "accepted"
+    ∷ codes "record cut short"
+    ∷ codes "unknown mark"
+    ∷ codes "field outside its range"
+    ∷ codes "not in this stage"
+    ∷ codes "unit already enrolled"
+    ∷ codes "unit not enrolled"
+    ∷ codes "component foreign to kind"
+    ∷ codes "count of readings against the full time"
+    ∷ codes "minutes that cannot be"
+    ∷ codes "consumer not declared"
+    ∷ codes "above the producer's efficient offers"
+    ∷ codes "above the pair's balance"
+    ∷ codes "weights sum to 0"
+    ∷ codes "adjusted demand above 3,000,000 kW"
+    ∷ codes "buffer too short"
     ∷ []
 
 -- what a number means; nothing where there is no such number
 unfoldable pub meaning : ℕ → List ℕ
 meaning number = get_or meanings number []
 
--- a number, a blank, what it means, and a line feed
+-- a number, a blank, words, and a line feed
+abbrev pub numbered : ℕ → List ℕ → List ℕ
+numbered number words = decimal number ++ (32 ∷ (words ++ (10 ∷ [])))
+
+-- a number and what it means
 unfoldable pub said : ℕ → List ℕ
-said number = decimal number ++ (32 ∷ (meaning number ++ (10 ∷ [])))
+said number = numbered number (meaning number)
 
 -- a place, a colon, and what is said of it
 unfoldable pub at_place : ℕ → ℕ → List ℕ
-at_place place number = decimal place ++ (bytes ": " ++ said number)
-
--- the most bytes of these
-abbrev pub said_most : ℕ
-said_most = 3 * line_most
-
-abbrev pub place_most : ℕ
-place_most = 5 * line_most
+at_place place number = decimal place ++ (codes ": " ++ said number)

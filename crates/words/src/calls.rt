@@ -1,143 +1,113 @@
 // A call in words, as a line of a text journal has it.
-ghost use Rattle.std.specs.Prelude.{◌+◌, ◌*◌, ◌≤◌, ◌≡◌, length};
-ghost use Rattle.table.specs.Records.{most_fields};
-ghost use Rattle.text.specs.Text.{Puts, line_most};
-ghost use Rattle.words.specs.Phrases.{phrase_most, phrase_of};
-ghost use Rattle.words.specs.Calls.{call_name, value_text, field_text, fields_text, shown_readings, readings_in, most_shown, call_text, call_most};
+ghost use Rattle.std.specs.Prelude.{◌≡◌, ◌≤◌, length};
+ghost use Rattle.words.specs.Calls.{call_name, value_text, fields_text, readings_text, call_text};
 
-use crate::phrases::{Phrase, put_phrase};
-use basis::number_at;
-use table::{Call, ConsumerCall, ContractCall, FIELDS, UnitCall, fields_of};
-use text::{put_byte, put_decimal};
+use quantities::GREATEST_COUNT;
+use table::{Call, ConsumerCall, ContractCall, FIELDS, Fields, UnitCall, fields_of};
+use text::{LONGEST_DECIMAL, Text, decimal};
 
-// The most readings that are shown: those of a test in range.
-const MOST_SHOWN: usize = quantities::GREATEST_COUNT as usize;
+// The most bytes of a call's name, and of a value behind its blank.
+const LONGEST_NAME: usize = 12;
+
+const LONGEST_VALUE: usize = 1 + LONGEST_DECIMAL;
+
+// The most bytes of a call's fields, of its readings, and of the call.
+const LONGEST_FIELDS: usize = FIELDS * LONGEST_VALUE;
+
+const LONGEST_READINGS: usize = GREATEST_COUNT as usize * LONGEST_VALUE;
+
+pub const LONGEST_CALL: usize = LONGEST_NAME + LONGEST_FIELDS + LONGEST_READINGS;
 
 // The name of a call.
-fn name_of(call: Call) -> Phrase
-    ensures value { result ≡ phrase_of (call_name call) }
-    ensures length_le_phrase_most { result.length ≤ phrase_most }
+#[tactic(auto, unfolding(crate::specs::Calls::call_name))]
+fn call_name(call: Call) -> &'static str
+    ensures words { result.now ≡ call_name call }
+    ensures short { length result.now ≤ LONGEST_NAME }
 {
     match call {
-        Call::Year { .. } => Phrase {
-            length: 4,
-            bytes: *b"year                                    ",
-        },
-        Call::Fix { .. } => Phrase {
-            length: 3,
-            bytes: *b"fix                                     ",
-        },
-        Call::Close { .. } => Phrase {
-            length: 5,
-            bytes: *b"close                                   ",
-        },
-        Call::Unit { act, .. } => match act {
-            UnitCall::Enrol { .. } => Phrase {
-                length: 4,
-                bytes: *b"unit                                    ",
-            },
-            UnitCall::Test { .. } => Phrase {
-                length: 4,
-                bytes: *b"test                                    ",
-            },
-            UnitCall::Availability { .. } => Phrase {
-                length: 12,
-                bytes: *b"availability                            ",
-            },
-        },
-        Call::Consumer { act, .. } => match act {
-            ConsumerCall::Declare { .. } => Phrase {
-                length: 7,
-                bytes: *b"declare                                 ",
-            },
-            ConsumerCall::Meter { .. } => Phrase {
-                length: 5,
-                bytes: *b"meter                                   ",
-            },
-        },
-        Call::Contract { act, .. } => match act {
-            ContractCall::Commit { .. } => Phrase {
-                length: 6,
-                bytes: *b"commit                                  ",
-            },
-            ContractCall::Release { .. } => Phrase {
-                length: 7,
-                bytes: *b"release                                 ",
-            },
-        },
+        Call::Year(_) => "year",
+        Call::Fix { .. } => "fix",
+        Call::Close { .. } => "close",
+        Call::Unit {
+            act: UnitCall::Enrol(_),
+            ..
+        } => "unit",
+        Call::Unit {
+            act: UnitCall::Test { .. },
+            ..
+        } => "test",
+        Call::Unit {
+            act: UnitCall::Availability { .. },
+            ..
+        } => "availability",
+        Call::Consumer {
+            act: ConsumerCall::Declare { .. },
+            ..
+        } => "declare",
+        Call::Consumer {
+            act: ConsumerCall::Meter { .. },
+            ..
+        } => "meter",
+        Call::Contract {
+            act: ContractCall::Commit { .. },
+            ..
+        } => "commit",
+        Call::Contract {
+            act: ContractCall::Release { .. },
+            ..
+        } => "release",
     }
 }
 
 // A number behind a blank.
-fn put_value(out: &mut [u8], at: usize, value: u64) -> usize
-    requires { at + line_most ≤ length out.old }
-    ensures { Puts line_most (value_text value) out.old at result out.new }
+#[tactic(auto, unfolding(crate::specs::Calls::value_text))]
+fn value_text(value: u32) -> Text<LONGEST_VALUE>
+    ensures { result ≡ value_text value }
 {
-    let digits = put_byte(out, at, b' ');
-    put_decimal(out, digits, value)
+    let mut text = Text::new();
+    text.push(b' ');
+    text.push_text(&decimal(value.into()));
+    text
 }
 
-// A field behind a blank; nothing where its width is 0, since there is no such field.
-fn put_field(out: &mut [u8], at: usize, width: usize, value: u32) -> usize
-    requires { at + line_most ≤ length out.old }
-    ensures { Puts line_most (field_text width value) out.old at result out.new }
+// The fields: where a width is 0, there is none.
+#[tactic(auto, unfolding(crate::specs::Calls::fields_text))]
+fn fields_text(fields: Fields) -> Text<LONGEST_FIELDS>
+    ensures { result ≡ fields_text fields.form.widths fields.values }
 {
-    if width == 0 {
-        return at;
+    let mut text = Text::new();
+    for (width, value) in fields.form.widths.iter().zip(&fields.values) {
+        if *width != 0 {
+            text.push_text(&value_text(*value));
+        }
     }
-    put_value(out, at, value as u64)
+    text
 }
 
-// The fields of a record with these widths and values.
-fn put_fields(out: &mut [u8], at: usize, widths: [usize; FIELDS], values: [u32; FIELDS]) -> usize
-    requires { at + most_fields * line_most ≤ length out.old }
-    ensures { Puts (most_fields * line_most) (fields_text widths values) out.old at result out.new }
+// The readings that the bytes hold, four bytes each: at most as many as a test in range has.
+fn readings_text(readings: &[u8]) -> Text<LONGEST_READINGS>
+    ensures { result ≡ readings_text readings.now }
 {
-    let mut place = at;
-    let mut i = 0;
-    while i < FIELDS {
-        place = put_field(out, place, widths[i], values[i]);
-        i += 1;
+    let mut text = Text::new();
+    for reading in readings
+        .as_chunks::<4>()
+        .0
+        .iter()
+        .take(GREATEST_COUNT as usize)
+    {
+        text.push_text(&value_text(u32::from_le_bytes(*reading)));
     }
-    place
-}
-
-// How many readings of four bytes are shown.
-fn shown(bytes: usize) -> usize
-    ensures { result ≡ shown_readings bytes }
-{
-    let count = bytes / 4;
-    if MOST_SHOWN < count {
-        return MOST_SHOWN;
-    }
-    count
-}
-
-// The readings that the bytes hold.
-fn put_readings(out: &mut [u8], at: usize, readings: &[u8]) -> usize
-    requires { at + most_shown * line_most ≤ length out.old }
-    ensures { Puts (most_shown * line_most) (readings_in readings.now) out.old at result out.new }
-{
-    let count = shown(readings.len());
-    let mut place = at;
-    let mut i = 0;
-    while i < count {
-        place = put_value(out, place, number_at(readings, 4 * i, 4));
-        i += 1;
-    }
-    place
+    text
 }
 
 // The call with its readings.
-pub fn put_call(out: &mut [u8], at: usize, call: Call, readings: &[u8]) -> usize
-    requires { at + call_most ≤ length out.old }
-    ensures { Puts call_most (call_text call readings.now) out.old at result out.new }
+#[tactic(auto, unfolding(crate::specs::Calls::call_text, table::specs::Ranges::fields_of))]
+pub fn call_text(call: Call, readings: &[u8]) -> Text<LONGEST_CALL>
+    ensures { result ≡ call_text call readings.now }
 {
-    let first = put_phrase(out, at, name_of(call));
-    let fields = fields_of(call);
-    let form = fields.form;
-    let widths = form.widths;
-    let values = fields.values;
-    let behind = put_fields(out, first, widths, values);
-    put_readings(out, behind, readings)
+    let mut text = Text::new();
+    text.push_str(call_name(call));
+    text.push_text(&fields_text(fields_of(call)));
+    text.push_text(&readings_text(readings));
+    text
 }

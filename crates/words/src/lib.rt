@@ -1,12 +1,9 @@
 // The numbered replies and the calls in words.
-// For our own crates and not for buyers, as `text` is: a function here requires that the buffer has room for what it puts.
+// For our own crates and not for buyers, as `text` is.
 #![tactic(auto)]
 
 mod calls; // calls.rt: a call in words
-mod conditions; // conditions.rt: when a number is met, in document 01's words
-mod numbers; // numbers.rt: the numbered replies in words
-mod phrases; // phrases.rt: words of at most 40 bytes
+mod numbers; // numbers.rt: the numbered replies in words: what each means, and when it is met
 
-pub use calls::put_call;
-pub use conditions::put_condition;
-pub use numbers::{put_at_place, put_figure, put_said};
+pub use calls::{LONGEST_CALL, call_text};
+pub use numbers::{LONGEST_AT_PLACE, LONGEST_SAID, at_place, condition_line, said};

@@ -1,114 +1,142 @@
 // The numbered replies in words.
-ghost use Rattle.std.specs.Prelude.{◌+◌, ◌≤◌, ◌≡◌, length};
-ghost use Rattle.text.specs.Text.{Puts, line_most, decimal};
-ghost use Rattle.words.specs.Phrases.{phrase_most, phrase_of};
-ghost use Rattle.words.specs.Numbers.{meaning, said, said_most, at_place, place_most};
+ghost use Rattle.std.specs.Prelude.{◌≡◌, ◌≤◌, length};
+ghost use Rattle.words.specs.Numbers.{meaning, numbered, said, at_place};
+ghost use Rattle.words.specs.Conditions.{condition, condition_line};
 
-use crate::phrases::{Phrase, put_phrase};
-use text::{put_byte, put_decimal, put_text};
+use text::{LONGEST_DECIMAL, Text, decimal};
 
-// What a number means; nothing where there is no such number.
-fn meaning_of(number: u32) -> Phrase
-    ensures value { result ≡ phrase_of (meaning number) }
-    ensures length_le_phrase_most { result.length ≤ phrase_most }
+// The most bytes of a number's meaning or condition.
+const LONGEST_WORDS: usize = 67;
+
+// The most bytes of a number in words, and of what is said of a place.
+pub const LONGEST_SAID: usize = LONGEST_DECIMAL + LONGEST_WORDS + 2;
+
+pub const LONGEST_AT_PLACE: usize = LONGEST_DECIMAL + 2 + LONGEST_SAID;
+
+// A number in words: what it means, and when it is met, in document 01's words.
+#[derive(Clone, Copy)]
+struct Words {
+    meaning: &'static str,
+    condition: &'static str,
+}
+
+// The words of a number; none where there is no such number.
+#[tactic(auto, unfolding(crate::specs::Numbers::meaning, crate::specs::Numbers::meanings, crate::specs::Conditions::condition, crate::specs::Conditions::conditions))]
+fn words_of(number: u32) -> Words
+    ensures meaning { result.meaning.now ≡ meaning number }
+    ensures short_meaning { length result.meaning.now ≤ LONGEST_WORDS }
+    ensures condition { result.condition.now ≡ condition number }
+    ensures short_condition { length result.condition.now ≤ LONGEST_WORDS }
 {
     match number {
-        0 => Phrase {
-            length: 8,
-            bytes: *b"accepted                                ",
+        0 => Words {
+            meaning: "accepted",
+            condition: "",
         },
-        1 => Phrase {
-            length: 16,
-            bytes: *b"record cut short                        ",
+        1 => Words {
+            meaning: "record cut short",
+            condition: "record cut short",
         },
-        2 => Phrase {
-            length: 12,
-            bytes: *b"unknown mark                            ",
+        2 => Words {
+            meaning: "unknown mark",
+            condition: "unknown mark",
         },
-        3 => Phrase {
-            length: 23,
-            bytes: *b"field outside its range                 ",
+        3 => Words {
+            meaning: "field outside its range",
+            condition: "field outside its range; a division's T, weights or their number",
         },
-        4 => Phrase {
-            length: 17,
-            bytes: *b"not in this stage                       ",
+        4 => Words {
+            meaning: "not in this stage",
+            condition: "stage",
         },
-        5 => Phrase {
-            length: 21,
-            bytes: *b"unit already enrolled                   ",
+        5 => Words {
+            meaning: "unit already enrolled",
+            condition: "unit already enrolled",
         },
-        6 => Phrase {
-            length: 17,
-            bytes: *b"unit not enrolled                       ",
+        6 => Words {
+            meaning: "unit not enrolled",
+            condition: "unit not enrolled",
         },
-        7 => Phrase {
-            length: 25,
-            bytes: *b"component foreign to kind               ",
+        7 => Words {
+            meaning: "component foreign to kind",
+            condition: "component foreign to kind",
         },
-        8 => Phrase {
-            length: 39,
-            bytes: *b"count of readings against the full time ",
+        8 => Words {
+            meaning: "count of readings against the full time",
+            condition: "ending 0 with count not TC; ending 1 or 2 with count TC or more",
         },
-        9 => Phrase {
-            length: 22,
-            bytes: *b"minutes that cannot be                  ",
+        9 => Words {
+            meaning: "minutes that cannot be",
+            condition: "HD + HIF + HMP is 0 or above 1,052,640, or HED > HD + HMP",
         },
-        10 => Phrase {
-            length: 21,
-            bytes: *b"consumer not declared                   ",
+        10 => Words {
+            meaning: "consumer not declared",
+            condition: "consumer not declared (commit, release, meter)",
         },
-        11 => Phrase {
-            length: 37,
-            bytes: *b"above the producer's efficient offers   ",
+        11 => Words {
+            meaning: "above the producer's efficient offers",
+            condition: "producer's balances + q exceed its units' efficient offers",
         },
-        12 => Phrase {
-            length: 24,
-            bytes: *b"above the pair's balance                ",
+        12 => Words {
+            meaning: "above the pair's balance",
+            condition: "q above the pair's balance",
         },
-        13 => Phrase {
-            length: 16,
-            bytes: *b"weights sum to 0                        ",
+        13 => Words {
+            meaning: "weights sum to 0",
+            condition: "weights sum to 0",
         },
-        14 => Phrase {
-            length: 34,
-            bytes: *b"adjusted demand above 3,000,000 kW      ",
+        14 => Words {
+            meaning: "adjusted demand above 3,000,000 kW",
+            condition: "a DFA above 3,000,000",
         },
-        15 => Phrase {
-            length: 16,
-            bytes: *b"buffer too short                        ",
+        15 => Words {
+            meaning: "buffer too short",
+            condition: "output buffer shorter than the record, or than a division's amounts",
         },
-        _ => Phrase {
-            length: 0,
-            bytes: *b"                                        ",
+        _ => Words {
+            meaning: "",
+            condition: "",
         },
     }
 }
 
-// The digits of a number, in the room of a line.
-pub fn put_figure(out: &mut [u8], at: usize, x: u64) -> usize
-    requires { at + line_most ≤ length out.old }
-    ensures { Puts line_most (decimal x) out.old at result out.new }
+// A number, a blank and words, with a line feed.
+fn numbered(number: u32, words: &str) -> Text<LONGEST_SAID>
+    requires { length words.now ≤ LONGEST_WORDS }
+    ensures { result ≡ numbered number words.now }
 {
-    put_decimal(out, at, x)
+    let mut line = Text::new();
+    line.push_text(&decimal(number.into()));
+    line.push(b' ');
+    line.push_str(words);
+    line.push(b'\n');
+    line
 }
 
 // A number, a blank and what it means, with a line feed.
-pub fn put_said(out: &mut [u8], at: usize, number: u32) -> usize
-    requires { at + said_most ≤ length out.old }
-    ensures { Puts said_most (said number) out.old at result out.new }
+#[tactic(auto, unfolding(crate::specs::Numbers::said))]
+pub fn said(number: u32) -> Text<LONGEST_SAID>
+    ensures { result ≡ said number }
 {
-    let blank = put_figure(out, at, number as u64);
-    let words = put_byte(out, blank, b' ');
-    let end = put_phrase(out, words, meaning_of(number));
-    put_byte(out, end, b'\n')
+    numbered(number, words_of(number).meaning)
+}
+
+// A number, a blank and when it is met, with a line feed.
+#[tactic(auto, unfolding(crate::specs::Conditions::condition_line))]
+pub fn condition_line(number: u32) -> Text<LONGEST_SAID>
+    ensures { result ≡ condition_line number }
+{
+    numbered(number, words_of(number).condition)
 }
 
 // A place, a colon, and what is said of it.
-pub fn put_at_place(out: &mut [u8], at: usize, place: usize, number: u32) -> usize
-    requires { at + place_most ≤ length out.old }
-    ensures { Puts place_most (at_place place number) out.old at result out.new }
+#[tactic(auto, unfolding(crate::specs::Numbers::at_place))]
+pub fn at_place(place: usize, number: u32) -> Text<LONGEST_AT_PLACE>
+    ensures { result ≡ at_place place number }
 {
-    let colon = put_figure(out, at, place as u64);
-    let words = put_text(out, colon, b": ");
-    put_said(out, words, number)
+    let mut line = Text::new();
+    line.push_text(&decimal(place as u64));
+    line.push_str(": ");
+    line.push_text(&said(number));
+    line
 }

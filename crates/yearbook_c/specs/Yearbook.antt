@@ -1,8 +1,8 @@
 -- What the functions for C of Level Year answer and leave in the lent buffers.
-use Rattle.std.specs.Prelude.{◌≡◌, List, [], ◌∷◌, ℕ, ◌≤◌, ◌<◌, ◌^◌, eqb, ltb, length, get_or}
+use Rattle.std.specs.Prelude.{◌≡◌, List, [], ◌∷◌, ℕ, ◌≤◌, ◌<◌, ◌^◌, eqb, ltb, length, get_or, Option}
 use Rattle.basis.specs.Choice.{pick}
 use Rattle.basis.specs.Numbers.{all_bytes_of, written}
-use Rattle.journal.specs.declared.outcome.FirstRefused.{FirstRefused}
+use Rattle.journal.specs.declared.outcome.Refused.{Refused}
 use Rattle.journal.specs.declared.outcome.Run.{Run}
 use Rattle.journal.specs.Run.{named_places, named_numbers, run_of}
 use Rattle.listing.specs.Listing.{listing_of, listing_most, listed_of, listed_in}
@@ -24,7 +24,7 @@ pub record PrintsJournal (journal old : List ℕ) (before r : ℕ) (new : List �
   pub short : length (text_of (run_of journal).book) ≤ printed_most
 
 -- how many refused records are named, none or the first one; its place and the number that it met, 0 where none is named
-abbrev pub named_of : FirstRefused → Named
+abbrev pub named_of : Option Refused → Named
 named_of f =
     record { count = length (named_places f); place = get_or (named_places f) 0 0; number = get_or (named_numbers f) 0 0 }
 

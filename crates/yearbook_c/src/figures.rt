@@ -3,7 +3,8 @@ ghost use Rattle.std.specs.Prelude.{◌≡◌, ℕ, ◌<◌, ◌^◌, get_or};
 ghost use Rattle.yearbook_c.specs.Yearbook.{named_of, figures_of, TellsRun};
 
 use basis::put_numbers;
-use journal::{FirstRefused, Run, run};
+use journal::{Refused, Run, run};
+use quantities::Refusal;
 
 // How many figures there are, and the bytes that they take.
 const FIGURES: usize = 8;
@@ -18,35 +19,34 @@ pub struct Named {
     pub number: u64,
 }
 
-fn named_of(first: FirstRefused) -> Named
+fn named_of(first: Option<Refused>) -> Named
     ensures { result ≡ named_of first }
 {
     match first {
-        FirstRefused::Nothing => Named {
+        None => Named {
             count: 0,
             place: 0,
             number: 0,
         },
-        FirstRefused::At { place, number } => Named {
+        Some(refused) => Named {
             count: 1,
-            place: place as u64,
-            number: number as u64,
+            place: refused.place as u64,
+            number: refused.number.into(),
         },
     }
 }
 
 // The figures of a run.
-fn figures_of(run: Run) -> [u64; FIGURES]
-    ensures value { result ≡ figures_of run }
+fn figures_of(run: &Run) -> [u64; FIGURES]
+    ensures value { result ≡ figures_of run.now }
     ensures by_index { (k : ℕ) → get_or result k 0 < 2 ^ 64 }
 {
-    let first = run.first;
-    let named = named_of(first);
+    let named = named_of(run.first);
     [
         run.read as u64,
         run.accepted as u64,
         run.refused as u64,
-        run.stop as u64,
+        run.stop.into(),
         run.place as u64,
         named.count,
         named.place,
@@ -60,9 +60,8 @@ pub extern "C" fn yearbook_run(journal: &[u8], figures: &mut [u8]) -> u32
     ensures { TellsRun journal.now figures.old result figures.new }
 {
     if figures.len() < FIGURES_SIZE {
-        return 15;
+        return Refusal::ShortBuffer.into();
     }
-    let told = figures_of(run(journal));
-    put_numbers(figures, 8, &told);
+    put_numbers(figures, 8, &figures_of(&run(journal)));
     0
 }

@@ -9,11 +9,11 @@ use listing::put_listing;
 pub extern "C" fn yearbook_list(journal: &[u8], listing: &mut [u8], written: &mut u64) -> u32
     ensures { ListsJournal journal.now listing.old written.old result listing.new written.new }
 {
-    let listed = put_listing(run(journal), listing);
-    let number = listed.number;
-    if number != 0 {
-        return number;
+    match put_listing(&run(journal), listing) {
+        Ok(size) => {
+            *written = size as u64;
+            0
+        }
+        Err(refusal) => refusal.into(),
     }
-    *written = listed.size as u64;
-    0
 }

@@ -9,13 +9,11 @@ use page::put_page;
 pub extern "C" fn yearbook_page(journal: &[u8], page: &mut [u8], length: &mut usize) -> u32
     ensures { PrintsJournal journal.now page.old length.old result page.new length.new }
 {
-    let run = run(journal);
-    let book = run.book;
-    let printed = put_page(book, page);
-    let number = printed.number;
-    if number != 0 {
-        return number;
+    match put_page(run(journal).book, page) {
+        Ok(size) => {
+            *length = size;
+            0
+        }
+        Err(refusal) => refusal.into(),
     }
-    *length = printed.size;
-    0
 }

@@ -1,31 +1,21 @@
--- `questions::adjustment_of` meets its contract. Assumes nothing.
-use borrow.Author.Tests.{ne_eqb}
-use Rattle.quantities.specs.Limits.{consumers}
-use Rattle.basis.proofs.Answers.{in_between, below_range, above_range}
+-- The answer by its definition, which has the values of the book.
+use Rattle.std.proofs.Common.{rules}
 use Rattle.questions.specs.Questions.{adjustment_of}
 use Rattle.questions.proofs.Values.{adjustment_told}
 use Rattle.questions.proofs.adjustment_of.Goals as goal
 
-pub returns-then-stage_number-ne-CLOSED : goal.returns-then-stage_number-ne-CLOSED
+pub returns-then-ne : goal.returns-then-ne
 unfolding adjustment_of
-returns-then-stage_number-ne-CLOSED c = adjustment_told _ _ (simp (← c.stage_number.ensures, ne_eqb _ _ c.if-stage_number-ne-CLOSED.true))
+returns-then-ne c = adjustment_told _ _ (search rules)
 
-pub returns-then-n-lt1 : goal.returns-then-n-lt1
+pub returns-in_err-place : goal.returns-in_err-place
 unfolding adjustment_of
-returns-then-n-lt1 c =
-    adjustment_told _ _
-    (simp (← c.stage_number.ensures, c.if-stage_number-ne-CLOSED.false, below_range 1 consumers _ c.if-n-lt1.true))
+returns-in_err-place c = adjustment_told _ _ (search rules)
 
-pub returns-then-n-gt-CONSUMERS : goal.returns-then-n-gt-CONSUMERS
+pub returns-in_err-figures : goal.returns-in_err-figures
 unfolding adjustment_of
-returns-then-n-gt-CONSUMERS c =
-    adjustment_told _ _
-    (simp (← c.stage_number.ensures, c.if-stage_number-ne-CLOSED.false, above_range 1 consumers _ c.if-n-gt-CONSUMERS.true))
+returns-in_err-figures c = adjustment_told _ _ (search rules)
 
 pub returns : goal.returns
 unfolding adjustment_of
-returns c =
-    let h = in_between 1 consumers _ c.if-n-lt1.false c.if-n-gt-CONSUMERS.false in
-    adjustment_told _ _
-    (simp (← c.stage_number.ensures, c.if-stage_number-ne-CLOSED.false, h)
-    c.adjustment_by.ensures)
+returns c = adjustment_told _ _ (search rules)

@@ -1,18 +1,13 @@
--- `questions::declaration_of` meets its contract. Assumes nothing.
-use Rattle.quantities.specs.Limits.{consumers}
-use Rattle.basis.proofs.Answers.{in_between, below_range, above_range}
+-- The answer by its definition, which has the values of the book.
+use Rattle.std.proofs.Common.{rules}
 use Rattle.questions.specs.Questions.{declaration_of}
 use Rattle.questions.proofs.Values.{declaration_told}
 use Rattle.questions.proofs.declaration_of.Goals as goal
 
-pub returns-then-number-lt1 : goal.returns-then-number-lt1
+pub returns-in-None : goal.returns-in-None
 unfolding declaration_of
-returns-then-number-lt1 c = declaration_told _ _ (simp (below_range 1 consumers _ c.if-number-lt1.true))
+returns-in-None c = declaration_told _ _ (search rules)
 
-pub returns-then-number-gt-CONSUMERS : goal.returns-then-number-gt-CONSUMERS
+pub returns-in-Some : goal.returns-in-Some
 unfolding declaration_of
-returns-then-number-gt-CONSUMERS c = declaration_told _ _ (simp (above_range 1 consumers _ c.if-number-gt-CONSUMERS.true))
-
-pub returns : goal.returns
-unfolding declaration_of
-returns c = declaration_told _ _ (simp (in_between 1 consumers _ c.if-number-lt1.false c.if-number-gt-CONSUMERS.false))
+returns-in-Some c = declaration_told _ _ (search rules)

@@ -1,19 +1,17 @@
--- `questions::unit_offers` meets its contract. Assumes nothing.
-use Rattle.quantities.specs.Limits.{units}
-use Rattle.basis.proofs.Answers.{in_between, below_range, above_range}
+-- The answer by its definition, which has the values of the book.
+use Rattle.std.proofs.Common.{rules}
 use Rattle.questions.specs.Questions.{unit_offers_of}
 use Rattle.questions.proofs.Values.{unit_told}
 use Rattle.questions.proofs.unit_offers.Goals as goal
 
-pub returns-then-n-lt1 : goal.returns-then-n-lt1
+pub returns-in_err-place : goal.returns-in_err-place
 unfolding unit_offers_of
-returns-then-n-lt1 c = unit_told _ _ (simp (below_range 1 units _ c.if-n-lt1.true))
+returns-in_err-place c = unit_told _ _ (search rules)
 
-pub returns-then-n-gt-UNITS : goal.returns-then-n-gt-UNITS
+pub returns-in_err-book : goal.returns-in_err-book
 unfolding unit_offers_of
-returns-then-n-gt-UNITS c = unit_told _ _ (simp (above_range 1 units _ c.if-n-gt-UNITS.true))
+returns-in_err-book c = unit_told _ _ (search rules)
 
 pub returns : goal.returns
 unfolding unit_offers_of
-returns c =
-    unit_told _ _ (simp (in_between 1 units _ c.if-n-lt1.false c.if-n-gt-UNITS.false) c.offers_by.ensures)
+returns c = unit_told _ _ (search rules)

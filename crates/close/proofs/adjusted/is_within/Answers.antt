@@ -1,30 +1,17 @@
-use mathlib.Core.Path.{◌≡◌, sym, ◌∙◌}
-use mathlib.Core.List.{map, List}
+-- `close::adjusted::is_within` meets its contract: of each Dreal its DFA is looked at. Assumes nothing.
+use mathlib.Core.Path.{sym, ◌∙◌}
 use Prim.Native.Nat.{ℕ, ◌*◌, ◌/◌}
-use native.Mathlib.Omega.{arith}
-use borrow.Author.Count.{below_more}
 use borrow.Author.Rules.{rules}
-use lib.ListN.{get_or, length-map}
-use Rattle.basis.proofs.Sums.{at_most_all, not_all_at_most}
+use lib.Dec.{leb}
+use Rattle.std.proofs.Common.{tests}
+use Rattle.std.proofs.lemmas.Iterator.{YieldsList-from_slice}
+use Rattle.std.proofs.lemmas.Iterator.Search.{all_from_yields_List}
+use Rattle.std.proofs.lemmas.List.Folds.{list_all-map}
 use Rattle.quantities.specs.Limits.{greatest_power}
-use Rattle.close.proofs.CloseLaws.{quotient_at_lem}
 use Rattle.close.proofs.adjusted.is_within.Goals as goal
-
--- what was found is the DFA of this consumer
-found : (dmp total : ℕ) (reals : List ℕ) (i by : ℕ) → by ≡ get_or reals i 0 * dmp / total → by ≡ get_or (map (λ real. real * dmp / total) reals) i 0
-found dmp total reals i by e = e ∙ sym (quotient_at_lem dmp total reals i)
-
-pub returns-then-adjusted_by-gt-GREATEST_DEMAND : goal.returns-then-adjusted_by-gt-GREATEST_DEMAND
-returns-then-adjusted_by-gt-GREATEST_DEMAND c =
-    let f = found c.args.dmp c.args.total c.args.reals.now c.loop-i.i c.adjusted_by.result c.adjusted_by.ensures in
-    sym (not_all_at_most greatest_power (map (λ real. real * c.args.dmp / c.args.total) c.args.reals.now) c.loop-i.i (omega (arith, f, c.if-adjusted_by-gt-GREATEST_DEMAND.true)))
-
-pub loop-i-preserved : goal.loop-i-preserved
-loop-i-preserved c =
-    let f = found c.args.dmp c.args.total c.args.reals.now c.loop-i.i c.adjusted_by.result c.adjusted_by.ensures in
-    (search rules, below_more _ _ c.loop-i.invariant.1 (omega (arith, f, c.if-adjusted_by-gt-GREATEST_DEMAND.false)))
 
 pub returns : goal.returns
 returns c =
-    let n = length-map c.args.reals.now (λ real. real * c.args.dmp / c.args.total) in
-    sym (at_most_all greatest_power (map (λ real. real * c.args.dmp / c.args.total) c.args.reals.now) (λ k p. c.loop-i.invariant.1 k (omega (arith, n))))
+    let a = c.args in
+    all_from_yields_List (λ (real : ℕ). leb (real * a.dmp / a.total) greatest_power) _ _ _ c.all.ensures.ran (YieldsList-from_slice a.reals.now cc) (λ x b q k. search (rules, tests))
+    ∙ sym (list_all-map (λ (x : ℕ). leb x greatest_power) (λ (real : ℕ). real * a.dmp / a.total) a.reals.now)

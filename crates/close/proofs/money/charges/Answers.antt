@@ -1,22 +1,19 @@
-use mathlib.Core.Path.{refl}
-use Rattle.basis.proofs.Sums.{all_at_most_lem}
-use Rattle.quantities.specs.Limits.{greatest_power, consumers}
-use Rattle.basis.proofs.Filling.{starts, next, ends}
+-- `close::charges` meets its contract. Assumes nothing.
+use mathlib.Core.Path.{◌≡◌, ap}
+use native.Mathlib.Omega.{arith}
+use borrow.Author.Rules.{rules}
+use lib.ListN.{get_or}
+use Rattle.basis.specs.Sums.{sum}
+use Rattle.basis.specs.Tables.{tab}
+use Rattle.basis.proofs.Made.{made_tab}
+use Rattle.quantities.specs.Limits.{consumers}
+use Rattle.state.specs.State.{fresh_consumer}
+use Rattle.close.specs.Close.{charge_by}
+use Rattle.close.proofs.Bounds.{charges_at_most}
 use Rattle.close.proofs.money.charges.Goals as goal
-
-pub loop-i-init : goal.loop-i-init
-loop-i-init c = starts _ consumers _ refl
-
-pub charge-requires : goal.charge-requires
-charge-requires c =
-    (c.requires.0, all_at_most_lem greatest_power c.args.adjusted c.requires.1 c.loop-i.i)
-
-pub loop-i-preserved : goal.loop-i-preserved
-loop-i-preserved c =
-    let l = c.loop-i in
-    next _ consumers l.charges l.i c.charge.result c.loop-i-test.true l.invariant c.charge.ensures
 
 pub returns : goal.returns
 returns c =
-    let l = c.loop-i in
-    ends _ consumers l.charges l.i c.loop-i-test.false l.invariant
+    let a = c.args in
+    let each : c.from_fn.result ≡ tab (λ i. charge_by a.p (get_or a.adjusted.now i 0) (get_or a.consumers.now i fresh_consumer).declaration) consumers = made_tab _ _ _ consumers (λ i y q l k. search rules) c.from_fn.ensures.items in
+    record { each = each; small = omega (arith, ap sum each, charges_at_most a.p a.adjusted.now a.consumers.now c.requires.within c.requires.price) }

@@ -1,31 +1,15 @@
-use mathlib.Core.Path.{◌≡◌, sym, ap, ◌∙◌}
+-- `fix::limit` meets its contract. Assumes nothing.
+use mathlib.Core.Path.{◌≡◌, ap, ◌∙◌}
 use native.Mathlib.Omega.{arith}
-use Rattle.basis.specs.Sums.{sum_up}
-use Rattle.basis.proofs.Sums.{sum_up-zero, sum_up_more}
+use borrow.Author.Rules.{rules}
+use Rattle.basis.specs.Sums.{sum}
+use Rattle.basis.proofs.Tables.{sum-tab}
 use Rattle.quantities.specs.Limits.{units}
-use Rattle.fix.proofs.FixLaws.{added_at, limit_held, limit_whole}
+use Rattle.fix.specs.Fix.{added_at, limit_of}
 use Rattle.fix.proofs.offers.limit.Goals as goal
 
-pub loop-i-init : goal.loop-i-init
-loop-i-init c = (omega arith, sym (sum_up-zero _), omega arith)
-
-pub loop-i-preserved : goal.loop-i-preserved
-loop-i-preserved c =
-    let a = c.args in
-    let l = c.loop-i in
-    let m = sum_up_more (added_at a.units a.efficient a.producer) l.i in
-    (omega arith, omega (arith, m, c.added.ensures), omega arith)
-
-pub returns-then-sum-gt-GREATEST_LIMIT : goal.returns-then-sum-gt-GREATEST_LIMIT
-returns-then-sum-gt-GREATEST_LIMIT c =
-    let a = c.args in
-    let l = c.loop-i in
-    let e : l.i ≡ units = omega arith in
-    limit_held a.units a.efficient a.producer l.sum (l.invariant.1 ∙ ap (λ n. sum_up (added_at a.units a.efficient a.producer) n) e) c.if-sum-gt-GREATEST_LIMIT.true
-
 pub returns : goal.returns
+unfolding limit_of
 returns c =
-    let a = c.args in
-    let l = c.loop-i in
-    let e : l.i ≡ units = omega arith in
-    limit_whole a.units a.efficient a.producer l.sum (l.invariant.1 ∙ ap (λ n. sum_up (added_at a.units a.efficient a.producer) n) e) c.if-sum-gt-GREATEST_LIMIT.false
+    let summed : c.sum-sum.result ≡ sum c.additions.result = search rules in
+    omega (arith, ap sum c.additions.ensures.each ∙ sum-tab (added_at c.args.units.now c.args.efficient.now c.args.producer) units)

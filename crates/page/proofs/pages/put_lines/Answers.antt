@@ -1,45 +1,43 @@
-use mathlib.Core.Path.{◌≡◌, refl, ap, ◌∙◌}
-use Prim.Native.Nat.{◌+◌}
-use native.Mathlib.Nat.{le_trans}
-use native.Mathlib.Omega.{arith}
-use lib.ListN.{length}
+use Rattle.std.proofs.Common.{◌≡◌, ◌≤◌, ◌++◌, length, ap, sym, ◌∙◌, arith}
 use Rattle.basis.specs.Numbers.{written}
 use Rattle.quantities.specs.Limits.{consumers}
-use Rattle.page.specs.Page.{number_at}
-use Rattle.page.proofs.Lengths.{bytes-within}
-use Rattle.page.proofs.Growing.{room_for_one, text_to, text_all, standing_none, standing_more}
+use Rattle.page.specs.Page.{heading_behind}
+use Rattle.page.proofs.Growing.{count_at_most, line_at, text_to, text_all, standing_none, standing_same, room_behind, standing_more}
 use Rattle.page.proofs.pages.put_lines.Goals as goal
 
 pub loop-i-init : goal.loop-i-init
-loop-i-init c =
-    let a = c.args in
-    (omega arith, refl, standing_none a.consumers a.adjusted a.charges a.credits a.out.now)
+loop-i-init c = standing_none c.args.consumers.now c.args.closing.now c.args.out.now
 
-pub put_consumer-lines-requires : goal.put_consumer-lines-requires
-put_consumer-lines-requires c =
+pub size_of-place-requires : goal.size_of-place-requires
+size_of-place-requires c = omega (arith, c.loop-i.invariant.count, count_at_most c.args.consumers.now c.loop-i.i)
+
+pub overflow_add-place : goal.overflow_add-place
+overflow_add-place c =
+    omega (arith, c.loop-i.invariant.count, count_at_most c.args.consumers.now c.loop-i.i, c.size_of-place.ensures, c.len.ensures.fits)
+
+pub slice_bounds-copy_from_slice-end : goal.slice_bounds-copy_from_slice-end
+slice_bounds-copy_from_slice-end c =
+    let z = c.args.closing.now in
     let l = c.loop-i in
-    room_for_one c.args.consumers l.i l.lines (length l.out) (omega arith) l.invariant.2.count (rw l.invariant.1 c.requires)
+    let figures = sym c.figures.ensures ∙ c.in-Some.is in
+    let text : c.placed-text.result ≡ heading_behind l.lines ++ line_at c.args.consumers.now z l.i c.in-Some.figures = cc in
+    let room = room_behind c.args.consumers.now z l.invariant (omega arith) c.requires figures in
+    omega (arith, room, ap length text)
 
 pub loop-i-preserved : goal.loop-i-preserved
 loop-i-preserved c =
-    let a = c.args in
+    let z = c.args.closing.now in
     let l = c.loop-i in
-    let put = c.put_consumer-lines in
-    let space = room_for_one a.consumers l.i l.lines (length a.out.now) (omega arith) l.invariant.2.count c.requires in
-    let before = le_trans (bytes-within l.lines (l.lines + length (number_at a.consumers l.i)) (omega arith)) space.1 in (
-      omega arith,
-      omega (arith, put.auto.out),
-      standing_more a.consumers a.adjusted a.charges a.credits before l.invariant.2 put.ensures.value put.ensures.puts,
-    )
+    let text : c.copy_from_slice.new.self ≡ heading_behind l.lines ++ line_at c.args.consumers.now z l.i c.in-Some.figures = cc in
+    standing_more c.args.consumers.now z l.invariant (omega arith) c.requires (sym c.figures.ensures ∙ c.in-Some.is) c.size_of-place.ensures (cc) text
 
-pub shape_of-out : goal.shape_of-out
-shape_of-out c = omega arith
+pub loop-i-preserved-in_default : goal.loop-i-preserved-in_default
+loop-i-preserved-in_default c =
+    standing_same c.args.consumers.now c.args.closing.now c.loop-i.invariant (sym c.figures.ensures ∙ c.in_default.is)
 
 pub returns : goal.returns
 returns c =
-    let a = c.args in
-    let l = c.loop-i in
-    let n : l.i ≡ consumers = omega arith in
-    l.invariant.2.put.bytes
-    ∙ ap (λ i. written a.out.now 0 (text_to a.consumers a.adjusted a.charges a.credits i)) n
-    ∙ ap (written a.out.now 0) (text_all a.consumers a.adjusted a.charges a.credits)
+    let n : c.loop-i.i ≡ consumers = omega arith in
+    c.loop-i.invariant.text
+    ∙ ap (λ i. written c.args.out.now 0 (text_to c.args.consumers.now c.args.closing.now i)) n
+    ∙ ap (written c.args.out.now 0) (text_all c.args.consumers.now c.args.closing.now)

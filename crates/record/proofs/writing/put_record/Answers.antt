@@ -1,54 +1,31 @@
--- `record::writing::put_record` meets its contract: the pieces are those of the call's record.
--- Assumes nothing.
-use mathlib.Core.Path.{◌≡◌, sym, ap, ◌∙◌}
-use Prim.Native.Nat.{◌+◌, ◌≤◌}
+-- The pieces are those of the call's record, and there is room for each.
 use native.Mathlib.Omega.{arith}
-use lib.ListN.{length-take, length, take}
-use Rattle.basis.specs.Sums.{sum}
-use Rattle.table.specs.Records.{widest, parts_of, fields_size}
-use Rattle.table.specs.Ranges.{fields_of}
-use Rattle.table.specs.declared.calls.Call.{Call}
-use Rattle.table.specs.declared.forms.Fields.{Fields}
+use lib.ListN.{length-take}
 use Rattle.table.proofs.Laws.{in_range}
-use Rattle.table.proofs.Table.{lawful, of_parts, narrow_reading, readings_by_fields}
-use Rattle.record.proofs.Writer.{written_as, pieces}
+use Rattle.table.proofs.Table.{of_parts}
+use Rattle.record.proofs.Writer.{room, record_put}
 use Rattle.record.proofs.writing.put_record.Goals as goal
 
--- the form is that of the call's record
-narrow : (k : Call) {f : Fields} → f ≡ fields_of k → f.form.reading_width ≤ widest
-unfolding fields_of
-narrow k e = omega (arith, ap (λ (g : Fields). g.form.reading_width) e, narrow_reading (parts_of k).mark)
+pub put_number-requires : goal.put_number-requires
+put_number-requires c = omega (arith, room c.args.call c.fields_of.ensures)
 
-pub readings_behind-more-requires : goal.readings_behind-more-requires
-readings_behind-more-requires c = narrow c.args.call c.fields_of-fields.ensures
+pub put_fields-requires : goal.put_fields-requires
+put_fields-requires c = omega (arith, room c.args.call c.fields_of.ensures)
 
-pub slice_bounds-put_parts-end : goal.slice_bounds-put_parts-end
-slice_bounds-put_parts-end c =
-    let k = c.args.call in
-    let rs = c.args.readings.now in
-    let f = c.fields_of-fields in
-    let z = c.readings_behind-more.ensures.0 ∙ readings_by_fields k f.result f.ensures in
-    omega (arith, length-take c.readings_behind-more.result rs, z, (of_parts k).lent rs (in_range k rs c.requires.0).1)
+-- the readings are lent with the call
+pub slice_bounds-put_bytes-end : goal.slice_bounds-put_bytes-end
+slice_bounds-put_bytes-end c =
+    let a = c.args in
+    omega (arith, length-take c.readings_size.result a.readings.now, c.readings_size.ensures.value, (of_parts a.call).lent a.readings.now (in_range a.call a.readings.now c.requires.0).1)
 
-pub put_parts-requires : goal.put_parts-requires
-unfolding fields_of
-put_parts-requires c =
-    let f = c.fields_of-fields in
-    let k = c.args.call in
-    let rs = c.args.readings.now in
-    let y = c.readings_behind-more.ensures.0 ∙ readings_by_fields k f.result f.ensures in
-    let z : f.result.form.size ≡ fields_size k = ap (λ (g : Fields). g.form.size) f.ensures in (
-      z ∙ (lawful (parts_of k).mark).size ∙ ap (λ (g : Fields). 2 + sum g.form.widths) (sym f.ensures),
-      omega (arith, z, length-take c.readings_behind-more.result rs, y, c.requires.1),
-      ap (λ (g : Fields). length g.form.widths) f.ensures ∙ sym (of_parts k).count ∙ ap (λ (g : Fields). length g.values) (sym f.ensures),
-    )
+pub put_bytes-requires : goal.put_bytes-requires
+put_bytes-requires c =
+    omega (arith, length-take c.readings_size.result c.args.readings.now, c.readings_size.ensures.value, room c.args.call c.fields_of.ensures)
 
 pub returns : goal.returns
 returns c =
-    let f = c.fields_of-fields in
-    let k = c.args.call in
-    let rs = c.args.readings.now in
-    let y = c.readings_behind-more.ensures.0 ∙ readings_by_fields k f.result f.ensures in
-    written_as c.args.out.now
-    (pieces k f.result rs (take c.readings_behind-more.result rs) f.ensures (ap (λ i. take i rs) y))
-    c.put_parts.ensures
+    let a = c.args in
+    let rs = a.readings.now in
+    let f = c.fields_of in
+    rw (c.put_bytes.ensures, c.readings_size.ensures.value, c.put_fields.ensures, c.put_number.ensures)
+    (record_put a.call rs a.out.now f.ensures c.requires.1 ((of_parts a.call).lent rs (in_range a.call rs c.requires.0).1))

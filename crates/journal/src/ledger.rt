@@ -1,0 +1,94 @@
+// The book of a run. Beside it stand, from the fix on, the figures from which a close's number is found: what all consumers declared, and
+// the real demand of each. Calls of a unit, a consumer or a contract are stored in place; year, fix and close are calls on the whole book,
+// which is copied only once such a call is found to be accepted.
+ghost use Rattle.std.specs.Prelude.{◌≡◌};
+ghost use Rattle.quantities.specs.Refusals.{met};
+ghost use Rattle.state.specs.State.{fresh_book, reply_with};
+ghost use Rattle.book.specs.Step.{step_of};
+ghost use Rattle.fix.specs.Fix.{fix_of};
+ghost use Rattle.close.specs.Close.{close_of};
+ghost use Rattle.book.specs.Year.{year_of};
+ghost use Rattle.decision.specs.Consumers.{consumer_of};
+ghost use Rattle.journal.specs.Ledger.{Ready};
+
+use book::calls::{close, fix, year};
+use book::{check_year, settle_consumer, settle_contract, settle_unit};
+use close::{check_close, real_demand, real_demands, total_declared};
+use fix::check_fix;
+use power::Hours;
+use quantities::{CONSUMERS, Refusal};
+use state::{Book, consumer_place, fresh};
+use table::{Call, ConsumerCall};
+
+#[derive(Drop)]
+pub(crate) struct Ledger {
+    pub(crate) book: Book,
+    pub(crate) total: u64,
+    pub(crate) reals: [u32; CONSUMERS],
+    ghost ready: { Ready book total reals },
+}
+
+impl Ledger {
+    pub(crate) fn new() -> Ledger
+        ensures { result.book ≡ fresh_book }
+    {
+        Ledger {
+            book: fresh(),
+            total: 0,
+            reals: [0; CONSUMERS],
+        }
+    }
+
+    // Any call, with the readings lent to a test.
+    pub(crate) fn take(&mut self, call: Call, readings: &[u8]) -> Result<(), Refusal>
+        ensures { reply_with (met result) self.new.book ≡ step_of self.old.book call readings.now }
+    {
+        match call {
+            Call::Year(hours) => self.take_year(hours),
+            Call::Fix { dmp } => self.take_fix(dmp),
+            Call::Close { p } => self.take_close(p),
+            Call::Unit { unit, act } => settle_unit(&mut self.book, unit, act, readings),
+            Call::Consumer { consumer, act } => self.take_consumer(consumer, act),
+            Call::Contract {
+                producer,
+                consumer,
+                act,
+            } => settle_contract(&mut self.book, producer, consumer, act),
+        }
+    }
+
+    fn take_year(&mut self, hours: Hours) -> Result<(), Refusal>
+        ensures { reply_with (met result) self.new.book ≡ year_of self.old.book hours }
+    {
+        check_year(self.book.stage, hours)?;
+        self.book = year(self.book, hours)?;
+        Ok(())
+    }
+
+    fn take_fix(&mut self, dmp: u32) -> Result<(), Refusal>
+        ensures { reply_with (met result) self.new.book ≡ fix_of self.old.book dmp }
+    {
+        check_fix(self.book.stage, &self.book.consumers, dmp)?;
+        self.book = fix(self.book, dmp)?;
+        self.total = total_declared(&self.book.consumers);
+        self.reals = real_demands(&self.book.consumers);
+        Ok(())
+    }
+
+    fn take_close(&mut self, p: u32) -> Result<(), Refusal>
+        ensures { reply_with (met result) self.new.book ≡ close_of self.old.book p }
+    {
+        check_close(self.book.stage, self.book.dmp, self.total, &self.reals, p)?;
+        self.book = close(self.book, p)?;
+        Ok(())
+    }
+
+    fn take_consumer(&mut self, consumer: u32, act: ConsumerCall) -> Result<(), Refusal>
+        ensures { reply_with (met result) self.new.book ≡ consumer_of self.old.book consumer act }
+    {
+        settle_consumer(&mut self.book, consumer, act)?;
+        let place = consumer_place(consumer);
+        self.reals[place] = real_demand(self.book.consumers[place]);
+        Ok(())
+    }
+}

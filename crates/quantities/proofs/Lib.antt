@@ -1,0 +1,2 @@
+-- Laws of the numbered replies.
+pub mod RefusalLaws

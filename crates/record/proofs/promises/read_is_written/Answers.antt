@@ -1,0 +1,5 @@
+use Rattle.record.proofs.RoundTrip.{read_is_written}
+use Rattle.record.proofs.promises.read_is_written.Goals as goal
+
+pub returns : goal.returns
+returns c = read_is_written

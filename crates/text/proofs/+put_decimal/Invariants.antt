@@ -1,5 +1,0 @@
--- `text::put_decimal`: each call has a tenth of the number.
-use Rattle.text.proofs.+put_decimal.Given as goal
-
-abbrev pub decreases-put_decimal : goal.decreases-put_decimal
-decreases-put_decimal l = l.x
