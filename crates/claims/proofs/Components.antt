@@ -16,6 +16,8 @@ use Rattle.plant.specs.Availability.{minutes, availability_number, availability_
 use Rattle.quantities.specs.Limits.{greatest_power, greatest_component, units}
 use Rattle.power.specs.declared.quantity.Kw.{Kw}
 use Rattle.power.specs.declared.component.Component.{Component}
+use Rattle.power.specs.declared.component.Minutes.{Minutes}
+use Rattle.power.specs.declared.component.Trial.{Trial}
 use Rattle.plant.proofs.Results.{test-within-greatest, test-within_cap, availability_keeps_maximum}
 use Rattle.table.proofs.Laws.{Numbered}
 use Rattle.table.specs.Records.{parts_of}
@@ -125,29 +127,29 @@ module _ (h : List Event) (b : Book) (k : Kept h b) (unit component : ℕ) (numb
   was : component_of (unit_at b.units unit) component ≡ component_in h unit component
   was = ap (λ v. component_of v component) (unit_at_lem h b k unit numbered) ∙ component_in_lem h unit component few
 
-  module _ (ending tc count : ℕ) (readings : List ℕ) (z : test_rest (unit_at b.units unit).enrolment component ending tc count readings ≡ 0) where
+  module _ (trial : Trial) (readings : List ℕ) (z : test_rest (unit_at b.units unit).enrolment component trial.ending trial.tc trial.count readings ≡ 0) where
     abbrev test : Event
-    test = record { call = call.Unit unit (unit-call.Test component ending tc count); readings = readings }
+    test = record { call = call.Unit unit (unit-call.Test component trial); readings = readings }
 
-    there : (last_that (about name.Unit unit) h ≡ never → ⊥) × (test_number ending tc count readings ≡ 0)
+    there : (last_that (about name.Unit unit) h ≡ never → ⊥) × (test_number trial.ending trial.tc trial.count readings ≡ 0)
     there =
         let l = last_that (about name.Unit unit) h in
-        enrolled_passed l (λ kind. has_test kind component) (test_number ending tc count readings)
-        (sym (test_in l component ending tc count readings)
-        ∙ ap (λ (v : Unit). test_rest v.enrolment component ending tc count readings) (sym (unit_at_lem h b k unit numbered))
+        enrolled_passed l (λ kind. has_test kind component) (test_number trial.ending trial.tc trial.count readings)
+        (sym (test_in l component trial.ending trial.tc trial.count readings)
+        ∙ ap (λ (v : Unit). test_rest v.enrolment component trial.ending trial.tc trial.count readings) (sym (unit_at_lem h b k unit numbered))
         ∙ z)
 
     abbrev before : Component
     before = component_of (unit_at b.units unit) component
 
     abbrev after : Component
-    after = (test_of before (cap_of (unit_at b.units unit).enrolment) ending tc count readings).component
+    after = (test_of before (cap_of (unit_at b.units unit).enrolment) trial.ending trial.tc trial.count readings).component
 
     cap_was : cap_of (unit_at b.units unit).enrolment ≡ cap_of (entry_in h unit)
     cap_was = ap (λ (v : Unit). cap_of v.enrolment) (unit_at_lem h b k unit numbered)
 
     -- the test's component is the one of the rows of "Maximum power"
-    by_rows : (x : Component) (cap : Option Kw) → (test_of x cap ending tc count readings).component ≡ after_test cap ending x (measured_of x.void_trip ending tc count (energy_of count readings))
+    by_rows : (x : Component) (cap : Option Kw) → (test_of x cap trial.ending trial.tc trial.count readings).component ≡ after_test cap trial.ending x (measured_of x.void_trip trial.ending trial.tc trial.count (energy_of trial.count readings))
     unfolding test_of
     by_rows x cap = simp there.1
 
@@ -156,50 +158,50 @@ module _ (h : List Event) (b : Book) (k : Kept h b) (unit component : ℕ) (numb
     this j =
         simp (eq-eqb unit unit refl) (go (eqb component j) refl)
       where
-        go : (t : Bool) → eqb component j ≡ t → pick t (after_test (cap_of (entry_in h unit)) ending (component_in h unit j) (measured_of (component_in h unit j).void_trip ending tc count (energy_of count readings))) (component_in h unit j) ≡ pick t after (component_in h unit j)
+        go : (t : Bool) → eqb component j ≡ t → pick t (after_test (cap_of (entry_in h unit)) trial.ending (component_in h unit j) (measured_of (component_in h unit j).void_trip trial.ending trial.tc trial.count (energy_of trial.count readings))) (component_in h unit j) ≡ pick t after (component_in h unit j)
         go true q =
-            ap (λ n. after_test (cap_of (entry_in h unit)) ending (component_in h unit n) (measured_of (component_in h unit n).void_trip ending tc count (energy_of count readings))) (sym (eqb-true component j q))
+            ap (λ n. after_test (cap_of (entry_in h unit)) trial.ending (component_in h unit n) (measured_of (component_in h unit n).void_trip trial.ending trial.tc trial.count (energy_of trial.count readings))) (sym (eqb-true component j q))
             ∙ sym (by_rows (component_in h unit component) (cap_of (entry_in h unit)))
-            ∙ ap (λ x. (test_of x (cap_of (entry_in h unit)) ending tc count readings).component) (sym was)
-            ∙ ap (λ c. (test_of before c ending tc count readings).component) (sym cap_was)
+            ∙ ap (λ x. (test_of x (cap_of (entry_in h unit)) trial.ending trial.tc trial.count readings).component) (sym was)
+            ∙ ap (λ c. (test_of before c trial.ending trial.tc trial.count readings).component) (sym cap_was)
         go false q = refl
 
-    within : (cap : Option Kw) (x : Component) → Within cap x → Within cap (test_of x cap ending tc count readings).component
-    within None x q = le_refl (maximum_power (test_of x None ending tc count readings).component).0
-    within (Some m) x q = test-within_cap x m ending tc count readings q
+    within : (cap : Option Kw) (x : Component) → Within cap x → Within cap (test_of x cap trial.ending trial.tc trial.count readings).component
+    within None x q = le_refl (maximum_power (test_of x None trial.ending trial.tc trial.count readings).component).0
+    within (Some m) x q = test-within_cap x m trial.ending trial.tc trial.count readings q
 
-    after_is : after ≡ (test_of (component_in h unit component) (cap_of (entry_in h unit)) ending tc count readings).component
+    after_is : after ≡ (test_of (component_in h unit component) (cap_of (entry_in h unit)) trial.ending trial.tc trial.count readings).component
     after_is =
-        ap (λ x. (test_of x (cap_of (unit_at b.units unit).enrolment) ending tc count readings).component) was
-        ∙ ap (λ c. (test_of (component_in h unit component) c ending tc count readings).component) cap_was
+        ap (λ x. (test_of x (cap_of (unit_at b.units unit).enrolment) trial.ending trial.tc trial.count readings).component) was
+        ∙ ap (λ c. (test_of (component_in h unit component) c trial.ending trial.tc trial.count readings).component) cap_was
 
-    pub test_plants : Plants (test ∷ h) (set b.units (unit - 1) (tested_unit (unit_at b.units unit) component ending tc count readings))
+    pub test_plants : Plants (test ∷ h) (set b.units (unit - 1) (tested_unit (unit_at b.units unit) component trial.ending trial.tc trial.count readings))
     unfolding tested_unit parts_of
     test_plants =
         component_stored h b k test unit component after numbered few refl refl this
         (subst⁻¹ (λ x. Within (cap_of (entry_in h unit)) x) after_is (within (cap_of (entry_in h unit)) (component_in h unit component) (k.plants.power_capped unit component)))
-        (subst⁻¹ (λ x. (maximum_power x).0 ≤ greatest_power) after_is (test-within-greatest (component_in h unit component) (cap_of (entry_in h unit)) ending tc count readings (k.plants.power_small unit component)))
+        (subst⁻¹ (λ x. (maximum_power x).0 ≤ greatest_power) after_is (test-within-greatest (component_in h unit component) (cap_of (entry_in h unit)) trial.ending trial.tc trial.count readings (k.plants.power_small unit component)))
         there.0
 
-  module _ (hd hmp hif hed : ℕ) (readings : List ℕ) (z : availability_rest (unit_at b.units unit).enrolment component hd hmp hif hed ≡ 0) where
+  module _ (m : Minutes) (readings : List ℕ) (z : availability_rest (unit_at b.units unit).enrolment component m.hd m.hmp m.hif m.hed ≡ 0) where
     abbrev availability : Event
-    availability = record { call = call.Unit unit (unit-call.Availability component hd hmp hif hed); readings = readings }
+    availability = record { call = call.Unit unit (unit-call.Availability component m); readings = readings }
 
-    available_there : (last_that (about name.Unit unit) h ≡ never → ⊥) × (availability_number (minutes hd hmp hif hed) ≡ 0)
+    available_there : (last_that (about name.Unit unit) h ≡ never → ⊥) × (availability_number m ≡ 0)
     available_there =
         let l = last_that (about name.Unit unit) h in
-        enrolled_passed l (λ kind. has_availability kind component) (availability_number (minutes hd hmp hif hed))
-        (sym (available_in l component hd hmp hif hed)
-        ∙ ap (λ (v : Unit). availability_rest v.enrolment component hd hmp hif hed) (sym (unit_at_lem h b k unit numbered))
+        enrolled_passed l (λ kind. has_availability kind component) (availability_number m)
+        (sym (available_in l component m.hd m.hmp m.hif m.hed)
+        ∙ ap (λ (v : Unit). availability_rest v.enrolment component m.hd m.hmp m.hif m.hed) (sym (unit_at_lem h b k unit numbered))
         ∙ z)
 
     abbrev held : Component
-    held = (availability_of (component_of (unit_at b.units unit) component) (minutes hd hmp hif hed)).component
+    held = (availability_of (component_of (unit_at b.units unit) component) m).component
 
-    held_is : held ≡ (availability_of (component_in h unit component) (minutes hd hmp hif hed)).component
-    held_is = ap (λ x. (availability_of x (minutes hd hmp hif hed)).component) was
+    held_is : held ≡ (availability_of (component_in h unit component) m).component
+    held_is = ap (λ x. (availability_of x m).component) was
 
-    by_minutes : (x : Component) → (availability_of x (minutes hd hmp hif hed)).component ≡ record { result = x.result; void_trip = x.void_trip; availability = Some (minutes hd hmp hif hed) }
+    by_minutes : (x : Component) → (availability_of x m).component ≡ record { result = x.result; void_trip = x.void_trip; availability = Some m }
     unfolding availability_of
     by_minutes x = rw available_there.1 refl
 
@@ -207,21 +209,21 @@ module _ (h : List Event) (b : Book) (k : Kept h b) (unit component : ℕ) (numb
     unfolding component_in parts_of
     available_this j = simp (eq-eqb unit unit refl) (go (eqb component j) refl)
       where
-        go : (t : Bool) → eqb component j ≡ t → pick t (record { result = (component_in h unit j).result; void_trip = (component_in h unit j).void_trip; availability = Some (minutes hd hmp hif hed) }) (component_in h unit j) ≡ pick t held (component_in h unit j)
+        go : (t : Bool) → eqb component j ≡ t → pick t (record { result = (component_in h unit j).result; void_trip = (component_in h unit j).void_trip; availability = Some m }) (component_in h unit j) ≡ pick t held (component_in h unit j)
         go true q =
             sym (by_minutes (component_in h unit j))
-            ∙ ap (λ n. (availability_of (component_in h unit n) (minutes hd hmp hif hed)).component) (sym (eqb-true component j q))
+            ∙ ap (λ n. (availability_of (component_in h unit n) m).component) (sym (eqb-true component j q))
             ∙ sym held_is
         go false q = refl
 
     same_power : maximum_power held ≡ maximum_power (component_in h unit component)
-    same_power = ap maximum_power held_is ∙ availability_keeps_maximum (component_in h unit component) (minutes hd hmp hif hed)
+    same_power = ap maximum_power held_is ∙ availability_keeps_maximum (component_in h unit component) m
 
     same_within : (cap : Option Kw) (x y : Component) → maximum_power x ≡ maximum_power y → Within cap y → Within cap x
     same_within None x y q w = le_refl (maximum_power x).0
-    same_within (Some m) x y q w = subst⁻¹ (λ (p : Kw). p.0 ≤ m.0) q w
+    same_within (Some most) x y q w = subst⁻¹ (λ (p : Kw). p.0 ≤ most.0) q w
 
-    pub availability_plants : Plants (availability ∷ h) (set b.units (unit - 1) (available_unit (unit_at b.units unit) component hd hmp hif hed))
+    pub availability_plants : Plants (availability ∷ h) (set b.units (unit - 1) (available_unit (unit_at b.units unit) component m.hd m.hmp m.hif m.hed))
     unfolding available_unit parts_of
     availability_plants =
         component_stored h b k availability unit component held numbered few refl refl available_this

@@ -37,8 +37,8 @@ either_way h b k e n new f = go (eqb n 0) refl
 
 step_kept : (h : List Event) (b : Book) → Kept h b → (c : Call) (rs : List ℕ) → Kept (pick (eqb (step_of b c rs).number 0) (record { call = c; readings = rs } ∷ h) h) (step_of b c rs).book
 unfolding step_of year_of fix_of close_of unit_of consumer_of contract_of
-step_kept h b k (call.Year nhrm nhmd ndhmd) rs =
-    either_way h b k (record { call = call.Year nhrm nhmd ndhmd; readings = rs }) (year_number b nhrm nhmd ndhmd) (begun b nhrm nhmd ndhmd) (year_kept h b k nhrm nhmd ndhmd rs)
+step_kept h b k (call.Year hours) rs =
+    either_way h b k (record { call = call.Year hours; readings = rs }) (year_number b hours) (begun b hours) (year_kept h b k hours rs)
 step_kept h b k (call.Fix dmp) rs =
     either_way h b k (record { call = call.Fix dmp; readings = rs }) (fix_number b dmp) (fixed b dmp) (fix_kept h b k dmp rs)
 step_kept h b k (call.Close p) rs =

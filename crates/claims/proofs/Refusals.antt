@@ -26,7 +26,7 @@ use Rattle.claims.proofs.Lists.{kept}
 
 exact : (h : List Event) (b : Book) → Kept h b → (c : Call) (rs : List ℕ) → (step_of b c rs).number ≡ number_in h c rs
 unfolding step_of year_of fix_of close_of unit_of consumer_of contract_of
-exact h b k (call.Year nhrm nhmd ndhmd) rs = year_exact h b k nhrm nhmd ndhmd rs
+exact h b k (call.Year hours) rs = year_exact h b k hours rs
 exact h b k (call.Fix dmp) rs = fix_exact h b k dmp rs
 exact h b k (call.Close p) rs = close_exact h b k p rs
 exact h b k (call.Unit unit act) rs = unit_exact h b k unit act rs

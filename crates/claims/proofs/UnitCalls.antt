@@ -12,18 +12,22 @@ use lib.Dec.{eqb}
 use lib.ListN.{set}
 use Rattle.basis.specs.Choice.{pick}
 use Rattle.power.specs.Power.{fresh, count_fits, test_number}
-use Rattle.plant.specs.Availability.{minutes, minutes_fit, availability_number}
+use Rattle.plant.specs.Availability.{minutes_fit, availability_number}
+use Rattle.power.specs.declared.component.Minutes.{Minutes}
+use Rattle.power.specs.declared.component.Trial.{Trial}
 use Rattle.quantities.specs.Limits.{units}
 use Rattle.table.specs.Records.{parts_of}
 use Rattle.table.specs.Records as name
 use Rattle.table.specs.Ranges.{call_number, rest_in_range}
 use Rattle.table.specs.declared.calls.Call.TheVariants as call
+use Rattle.table.specs.declared.units.Enrolling.{Enrolling}
 use Rattle.table.specs.declared.units.UnitCall.{UnitCall}
 use Rattle.table.specs.declared.units.UnitCall.TheVariants.{Enrol, Test, Availability}
 use Rattle.table.proofs.Laws.{in_range}
 use Rattle.table.proofs.Laws.{Numbered}
 use Rattle.table.proofs.UnitLaws.{unit-numbered, test-ranged, availability-ranged}
 use Rattle.state.specs.declared.kept.Stage.TheVariants.{Gathering}
+use Rattle.state.specs.declared.kept.Entry.{Entry}
 use Rattle.state.specs.declared.kept.Unit.{Unit}
 use Rattle.state.specs.declared.kept.Book.{Book}
 use Rattle.state.specs.State.{unit_at, ranged}
@@ -51,9 +55,13 @@ fresh-within None = le_refl 0
 fresh-within (Some m) = zero-le
 
 -- the units after an accepted enrolment
-module _ (h : List Event) (b : Book) (k : Kept h b) (unit producer kind flags pic ppr e1 e2 cap : ℕ) (readings : List ℕ) (numbered : Numbered units unit) (z : vacancy (unit_at b.units unit).enrolment ≡ 0) where
+module _ (h : List Event) (b : Book) (k : Kept h b) (unit : ℕ) (enrolling : Enrolling) (readings : List ℕ) (numbered : Numbered units unit) (z : vacancy (unit_at b.units unit).enrolment ≡ 0) where
+  abbrev entry : Entry
+  entry =
+      entry_of enrolling.producer enrolling.kind enrolling.flags enrolling.pic enrolling.ppr enrolling.e1 enrolling.e2 enrolling.cap
+
   abbrev enrol : Event
-  enrol = record { call = call.Unit unit (Enrol producer kind flags pic ppr e1 e2 cap); readings = readings }
+  enrol = record { call = call.Unit unit (Enrol enrolling); readings = readings }
 
   new : last_that (about name.Unit unit) h ≡ never
   new =
@@ -82,13 +90,13 @@ module _ (h : List Event) (b : Book) (k : Kept h b) (unit producer kind flags pi
       let o = other-unit u (eqb-false u unit q) in
       ((λ j. rw (ap entry_by o, same_component u j) (k.plants.power_capped u j)), λ j r. same_component u j ∙ k.plants.untested u j (sym o ∙ r))
 
-  enrol_plants : Plants (enrol ∷ h) (set b.units (unit - 1) (enrolled_unit (entry_of producer kind flags pic ppr e1 e2 cap)))
+  enrol_plants : Plants (enrol ∷ h) (set b.units (unit - 1) (enrolled_unit entry))
   unfolding parts_of
   enrol_plants =
       let free : (j : ℕ) → component_in (enrol ∷ h) unit j ≡ fresh = λ j. same_component unit j ∙ k.plants.untested unit j new in
       record {
         units_kept =
-            unit-stored h b k enrol unit (enrolled_unit (entry_of producer kind flags pic ppr e1 e2 cap)) numbered
+            unit-stored h b k enrol unit (enrolled_unit entry) numbered
             (unit_is (ap entry_by this_unit) (free 0) (free 1) (free 2))
             (λ w o. unit_is (ap entry_by (other-unit w o)) (same_component w 0) (same_component w 1) (same_component w 2));
         power_capped = λ u. (of_unit u (eqb u unit) refl (fresh-within (cap_of (entry_in (enrol ∷ h) u)))).0;
@@ -101,23 +109,23 @@ event unit act readings = record { call = call.Unit unit act; readings = reading
 
 -- a call of a unit touches plants, and of the fix only what it works from
 beside_plants : (unit : ℕ) (act : UnitCall) (readings : List ℕ) → Untouched the_timing (event unit act readings) × Untouched the_consumers (event unit act readings) × Untouched the_contracts (event unit act readings) × Untouched the_firm_year (event unit act readings) × Untouched the_money (event unit act readings)
-beside_plants unit (Enrol producer kind flags pic ppr e1 e2 cap) readings = (refl, refl, refl, refl, refl)
-beside_plants unit (Test component ending tc count) readings = (refl, refl, refl, refl, refl)
-beside_plants unit (Availability component hd hmp hif hed) readings = (refl, refl, refl, refl, refl)
+beside_plants unit (Enrol enrolling) readings = (refl, refl, refl, refl, refl)
+beside_plants unit (Test component trial) readings = (refl, refl, refl, refl, refl)
+beside_plants unit (Availability component m) readings = (refl, refl, refl, refl, refl)
 
 -- the number behind 3 and 4: of an enrolment, of a test in range, and of an availability in range
 vacancy_in : (l : Last) → vacancy (entry_by l) ≡ pick (happened l) 5 0
 vacancy_in never = refl
 vacancy_in (last e) = refl
 
-test-number : (unit component ending tc count : ℕ) (rs : List ℕ) → call_number (call.Unit unit (Test component ending tc count)) rs ≡ 0 → test_number ending tc count rs ≡ pick (count_fits ending tc count) 0 8
+test-number : (unit component : ℕ) (trial : Trial) (rs : List ℕ) → call_number (call.Unit unit (Test component trial)) rs ≡ 0 → test_number trial.ending trial.tc trial.count rs ≡ pick (count_fits trial.ending trial.tc trial.count) 0 8
 unfolding rest_in_range
-test-number unit component ending tc count rs z =
-    ap (λ t. pick t (pick (count_fits ending tc count) 0 8) 3) (in_range (call.Unit unit (Test component ending tc count)) rs z).1
+test-number unit component trial rs z =
+    ap (λ t. pick t (pick (count_fits trial.ending trial.tc trial.count) 0 8) 3) (in_range (call.Unit unit (Test component trial)) rs z).1
 
-availability-number : (unit component hd hmp hif hed : ℕ) (rs : List ℕ) → call_number (call.Unit unit (Availability component hd hmp hif hed)) rs ≡ 0 → availability_number (minutes hd hmp hif hed) ≡ pick (minutes_fit (minutes hd hmp hif hed)) 0 9
-availability-number unit component hd hmp hif hed rs z =
-    ap (λ t. pick t (pick (minutes_fit (minutes hd hmp hif hed)) 0 9) 3) (availability-ranged unit component hd hmp hif hed rs z).minutes
+availability-number : (unit component : ℕ) (m : Minutes) (rs : List ℕ) → call_number (call.Unit unit (Availability component m)) rs ≡ 0 → availability_number m ≡ pick (minutes_fit m) 0 9
+availability-number unit component m rs z =
+    ap (λ t. pick t (pick (minutes_fit m) 0 9) 3) (availability-ranged unit component m rs z).minutes
 
 module _ (h : List Event) (b : Book) (k : Kept h b) (unit : ℕ) where
   abbrev was : Unit
@@ -125,14 +133,14 @@ module _ (h : List Event) (b : Book) (k : Kept h b) (unit : ℕ) where
 
   plants_after : (act : UnitCall) (readings : List ℕ) → call_number (call.Unit unit act) readings ≡ 0 → unit_rest act was readings ≡ 0 → Plants (event unit act readings ∷ h) (set b.units (unit - 1) (unit_after act was readings))
   unfolding unit_rest unit_after
-  plants_after (Enrol producer kind flags pic ppr e1 e2 cap) readings r z =
-      enrol_plants h b k unit producer kind flags pic ppr e1 e2 cap readings (unit-numbered unit (Enrol producer kind flags pic ppr e1 e2 cap) readings r) z
-  plants_after (Test component ending tc count) readings r z =
-      let ranges = test-ranged unit component ending tc count readings r in
-      test_plants h b k unit component ranges.unit ranges.component ending tc count readings z
-  plants_after (Availability component hd hmp hif hed) readings r z =
-      let ranges = availability-ranged unit component hd hmp hif hed readings r in
-      availability_plants h b k unit component ranges.unit ranges.component hd hmp hif hed readings z
+  plants_after (Enrol enrolling) readings r z =
+      enrol_plants h b k unit enrolling readings (unit-numbered unit (Enrol enrolling) readings r) z
+  plants_after (Test component trial) readings r z =
+      let ranges = test-ranged unit component trial readings r in
+      test_plants h b k unit component ranges.unit ranges.component trial readings z
+  plants_after (Availability component m) readings r z =
+      let ranges = availability-ranged unit component m readings r in
+      availability_plants h b k unit component ranges.unit ranges.component m readings z
 
   pub unit_kept : (act : UnitCall) (readings : List ℕ) → unit_number unit act b.stage was readings ≡ 0 → Kept (event unit act readings ∷ h) (after_unit b unit act readings)
   unfolding unit_number after_unit
@@ -162,13 +170,13 @@ module _ (h : List Event) (b : Book) (k : Kept h b) (unit : ℕ) where
 
   pub unit_exact : (act : UnitCall) (readings : List ℕ) → unit_number unit act b.stage was readings ≡ number_in h (call.Unit unit act) readings
   unfolding number_in unit_rest call_number rest_in_range
-  unit_exact (Enrol producer kind flags pic ppr e1 e2 cap) readings =
-      exact_by (Enrol producer kind flags pic ppr e1 e2 cap) readings (already_enrolled h unit) (λ z. vacancy_in enrolment)
-  unit_exact (Test component ending tc count) readings =
+  unit_exact (Enrol enrolling) readings =
+      exact_by (Enrol enrolling) readings (already_enrolled h unit) (λ z. vacancy_in enrolment)
+  unit_exact (Test component trial) readings =
       let by : ℕ → ℕ = λ own. enrolled_as enrolment (λ kind. pick (has_test kind component) own 7) in
-      exact_by (Test component ending tc count) readings (by (pick (count_fits ending tc count) 0 8))
-      (λ z. test_in enrolment component ending tc count readings ∙ ap by (test-number unit component ending tc count readings z))
-  unit_exact (Availability component hd hmp hif hed) readings =
+      exact_by (Test component trial) readings (by (pick (count_fits trial.ending trial.tc trial.count) 0 8))
+      (λ z. test_in enrolment component trial.ending trial.tc trial.count readings ∙ ap by (test-number unit component trial readings z))
+  unit_exact (Availability component m) readings =
       let by : ℕ → ℕ = λ own. enrolled_as enrolment (λ kind. pick (has_availability kind component) own 7) in
-      exact_by (Availability component hd hmp hif hed) readings (by (pick (minutes_fit (minutes hd hmp hif hed)) 0 9))
-      (λ z. available_in enrolment component hd hmp hif hed ∙ ap by (availability-number unit component hd hmp hif hed readings z))
+      exact_by (Availability component m) readings (by (pick (minutes_fit m) 0 9))
+      (λ z. available_in enrolment component m.hd m.hmp m.hif m.hed ∙ ap by (availability-number unit component m readings z))

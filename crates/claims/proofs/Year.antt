@@ -3,6 +3,7 @@ use mathlib.Core.Path.{◌≡◌, refl, sym, ◌∙◌}
 use mathlib.Core.Bool.{false}
 use mathlib.Core.List.{List, [], ◌∷◌}
 use Prim.Native.Nat.{ℕ}
+use Rattle.power.specs.declared.component.Hours.{Hours}
 use Rattle.table.specs.Records.{parts_of}
 use Rattle.table.specs.Records as name
 use Rattle.table.specs.declared.calls.Call.TheVariants as call
@@ -17,17 +18,17 @@ use Rattle.claims.proofs.Stages.{blank_is, accepted_shows, behind}
 use Rattle.claims.proofs.Kept.{Kept}
 use Rattle.claims.proofs.Untouched.{plants_other, consumers-other, contracts_other, firm_before, money_before}
 
-module _ (h : List Event) (b : Book) (k : Kept h b) (nhrm nhmd ndhmd : ℕ) (readings : List ℕ) where
+module _ (h : List Event) (b : Book) (k : Kept h b) (hours : Hours) (readings : List ℕ) where
   abbrev year : Event
-  year = record { call = call.Year nhrm nhmd ndhmd; readings = readings }
+  year = record { call = call.Year hours; readings = readings }
 
-  was_blank : year_number b nhrm nhmd ndhmd ≡ 0 → (closed_in h ≡ false) × (fixed_in h ≡ false) × (begun_in h ≡ false)
+  was_blank : year_number b hours ≡ 0 → (closed_in h ≡ false) × (fixed_in h ≡ false) × (begun_in h ≡ false)
   unfolding year_number_by
   was_blank z =
       blank_is (closed_in h) (fixed_in h) (begun_in h)
-      (sym k.timing.stage_kept ∙ (accepted_shows (call.Year nhrm nhmd ndhmd) [] Blank b.stage 0 z).stage)
+      (sym k.timing.stage_kept ∙ (accepted_shows (call.Year hours) [] Blank b.stage 0 z).stage)
 
-  pub year_kept : year_number b nhrm nhmd ndhmd ≡ 0 → Kept (year ∷ h) (begun b nhrm nhmd ndhmd)
+  pub year_kept : year_number b hours ≡ 0 → Kept (year ∷ h) (begun b hours)
   unfolding begun parts_of
   year_kept z =
       let this = last_this year h (is_a name.Year) refl in
@@ -47,6 +48,6 @@ module _ (h : List Event) (b : Book) (k : Kept h b) (nhrm nhmd ndhmd : ℕ) (rea
         money = money_before year h refl was.0;
       }
 
-  pub year_exact : year_number b nhrm nhmd ndhmd ≡ number_in h (call.Year nhrm nhmd ndhmd) readings
+  pub year_exact : year_number b hours ≡ number_in h (call.Year hours) readings
   unfolding year_number_by number_in
-  year_exact = behind h b.stage k.timing.stage_kept (call.Year nhrm nhmd ndhmd) [] Blank 0 0 (λ z s. refl)
+  year_exact = behind h b.stage k.timing.stage_kept (call.Year hours) [] Blank 0 0 (λ z s. refl)
