@@ -1,4 +1,5 @@
 -- The close: an accepted one keeps what is kept, and the number of any one.
+use Rattle.std.specs.Prelude.{Option, None, Some}
 use mathlib.Core.Path.{◌≡◌, refl, sym, ap, ◌∙◌}
 use mathlib.Core.Bool.{true, false}
 use mathlib.Core.List.{List, [], ◌∷◌, map}
@@ -23,7 +24,7 @@ use Rattle.close.specs.Close.{adjusted_of, adjusted_in, surplus_by, surpluses_in
 use Rattle.close.proofs.Bounds.{AcceptedClose}
 use Rattle.close.proofs.CloseLaws.{charges_small, accepted-close}
 use Rattle.book.specs.Lists.{Event}
-use Rattle.claims.specs.History.{Last, never, last, is_a, last_that, begun_in, fixed_in, closed_in, dmp_in, price_in, declared_in}
+use Rattle.claims.specs.History.{is_a, last_that, begun_in, fixed_in, closed_in, dmp_in, price_in, declared_in}
 use Rattle.claims.specs.Figures.{demand_in, declaration_by, consumer_in, consumers_in, adjusted_demands_in, positive_adjustments_in, all_charges_in, all_credits_in, undistributed_in}
 use Rattle.claims.specs.Refusals.{number_in}
 use Rattle.claims.proofs.SameFigures.{last_this, hours_as_before, fixed_as_before, dmp_as_before}
@@ -39,9 +40,9 @@ module _ {A : Type 0} where
   mapped_at_most g (x ∷ l) m h zero = h 0 (omega arith) x
   mapped_at_most g (x ∷ l) m h (suc i) = mapped_at_most g l m (λ j p d. h (suc j) (omega arith) d) i
 
-surplus_at_most : (dfa df m : ℕ) (l : Last) → df ≤ m → surplus_by dfa (declaration_by df l) ≤ m
-surplus_at_most dfa df m never h = zero-le
-surplus_at_most dfa df m (last e) h = omega arith
+surplus_at_most : (dfa df m : ℕ) (l : Option Event) → df ≤ m → surplus_by dfa (declaration_by df l) ≤ m
+surplus_at_most dfa df m None h = zero-le
+surplus_at_most dfa df m (Some e) h = omega arith
 
 module _ (h : List Event) (b : Book) (k : Kept h b) (p : ℕ) (readings : List ℕ) (z : close_number b p ≡ 0) where
   abbrev close : Event
@@ -54,7 +55,7 @@ module _ (h : List Event) (b : Book) (k : Kept h b) (p : ℕ) (readings : List �
   was_firm : (closed_in h ≡ false) × (fixed_in h ≡ true)
   was_firm = firm_is (closed_in h) (fixed_in h) (begun_in h) (sym k.timing.stage_kept ∙ shown.stage)
 
-  this : last_that (is_a name.Close) (close ∷ h) ≡ last close
+  this : last_that (is_a name.Close) (close ∷ h) ≡ Some close
   unfolding parts_of
   this = last_this close h (is_a name.Close) refl
 

@@ -29,7 +29,7 @@ use Rattle.state.specs.declared.kept.Book.{Book}
 use Rattle.state.specs.State.{unit_at}
 use Rattle.gathering.specs.Units.{has_test, has_availability, component_of, with_component, cap_of, test_rest, tested_unit, availability_rest, available_unit}
 use Rattle.book.specs.Lists.{Event}
-use Rattle.claims.specs.History.{Last, never, last, is_a, field, about, last_that, entry_by, entry_in, component_in}
+use Rattle.claims.specs.History.{is_a, field, about, last_that, entry_by, entry_in, component_in}
 use Rattle.claims.specs.Figures.{unit_in}
 use Rattle.claims.specs.Refusals.{enrolled_as}
 use Rattle.claims.proofs.SameFigures.{unit_is, about_as_before, entry_as_before, component_another}
@@ -37,20 +37,20 @@ use Rattle.claims.proofs.Kept.{Within, Plants, Kept}
 use Rattle.claims.proofs.Places.{unit_at_lem, unit-stored}
 
 -- the number of a call on a component behind 3 and 4, from its unit's last accepted enrolment
-pub test_in : (l : Last) (component ending tc count : ℕ) (readings : List ℕ) → test_rest (entry_by l) component ending tc count readings ≡ enrolled_as l (λ kind. pick (has_test kind component) (test_number ending tc count readings) 7)
+pub test_in : (l : Option Event) (component ending tc count : ℕ) (readings : List ℕ) → test_rest (entry_by l) component ending tc count readings ≡ enrolled_as l (λ kind. pick (has_test kind component) (test_number ending tc count readings) 7)
 unfolding test_rest
-test_in never component ending tc count readings = refl
-test_in (last e) component ending tc count readings = refl
+test_in None component ending tc count readings = refl
+test_in (Some e) component ending tc count readings = refl
 
-pub available_in : (l : Last) (component hd hmp hif hed : ℕ) → availability_rest (entry_by l) component hd hmp hif hed ≡ enrolled_as l (λ kind. pick (has_availability kind component) (availability_number (minutes hd hmp hif hed)) 7)
+pub available_in : (l : Option Event) (component hd hmp hif hed : ℕ) → availability_rest (entry_by l) component hd hmp hif hed ≡ enrolled_as l (λ kind. pick (has_availability kind component) (availability_number (minutes hd hmp hif hed)) 7)
 unfolding availability_rest
-available_in never component hd hmp hif hed = refl
-available_in (last e) component hd hmp hif hed = refl
+available_in None component hd hmp hif hed = refl
+available_in (Some e) component hd hmp hif hed = refl
 
 -- accepted, the unit is enrolled, and the component's own number is 0
-enrolled_passed : (l : Last) (has : ℕ → Bool) (own : ℕ) → enrolled_as l (λ kind. pick (has kind) own 7) ≡ 0 → (l ≡ never → ⊥) × (own ≡ 0)
-enrolled_passed never has own z = absurd (omega arith)
-enrolled_passed (last e) has own z =
+enrolled_passed : (l : Option Event) (has : ℕ → Bool) (own : ℕ) → enrolled_as l (λ kind. pick (has kind) own 7) ≡ 0 → (l ≡ None → ⊥) × (own ≡ 0)
+enrolled_passed None has own z = absurd (omega arith)
+enrolled_passed (Some e) has own z =
     ((λ q. let n : ◌≡◌ {A = ℕ} 0 1 = cc in absurd (omega arith)), (peel_not (has (field 2 e)) 6 own z).1)
 
 -- one component of three replaced
@@ -77,7 +77,7 @@ component_in_lem h w (suc (suc zero)) p = refl
 component_in_lem h w (suc (suc (suc j))) p = absurd (omega arith)
 
 -- a call on one component of one unit: the units and what is known of their powers
-module _ (h : List Event) (b : Book) (k : Kept h b) (e : Event) (u component : ℕ) (x : Component) (numbered : Numbered units u) (few : component ≤ greatest_component) (not-unit : is_a name.Unit e ≡ false) (of_unit : field 0 e ≡ u) (this : (j : ℕ) → component_in (e ∷ h) u j ≡ pick (eqb component j) x (component_in h u j)) (cap-kept : Within (cap_of (entry_in h u)) x) (small-kept : (maximum_power x).0 ≤ greatest_power) (there : last_that (about name.Unit u) h ≡ never → ⊥) where
+module _ (h : List Event) (b : Book) (k : Kept h b) (e : Event) (u component : ℕ) (x : Component) (numbered : Numbered units u) (few : component ≤ greatest_component) (not-unit : is_a name.Unit e ≡ false) (of_unit : field 0 e ≡ u) (this : (j : ℕ) → component_in (e ∷ h) u j ≡ pick (eqb component j) x (component_in h u j)) (cap-kept : Within (cap_of (entry_in h u)) x) (small-kept : (maximum_power x).0 ≤ greatest_power) (there : last_that (about name.Unit u) h ≡ None → ⊥) where
   others : (w j : ℕ) → (w ≡ u → ⊥) → component_in (e ∷ h) w j ≡ component_in h w j
   others w j o = component_another e h w j (ne_eqb (field 0 e) w (λ q. o (sym q ∙ of_unit)))
 
@@ -104,7 +104,7 @@ module _ (h : List Event) (b : Book) (k : Kept h b) (e : Event) (u component : �
       (chosen (λ y. (maximum_power y).0 ≤ greatest_power) (eqb component j) (component_in h u j) small-kept (k.plants.power_small u j))
   smalls_kept w j false q = rw (others w j (eqb-false w u q)) (k.plants.power_small w j)
 
-  untested_kept : (w j : ℕ) (t : Bool) → eqb w u ≡ t → last_that (about name.Unit w) (e ∷ h) ≡ never → component_in (e ∷ h) w j ≡ fresh
+  untested_kept : (w j : ℕ) (t : Bool) → eqb w u ≡ t → last_that (about name.Unit w) (e ∷ h) ≡ None → component_in (e ∷ h) w j ≡ fresh
   untested_kept w j true q r =
       absurd (there (ap (λ n. last_that (about name.Unit n) h) (sym (eqb-true w u q)) ∙ sym (about_as_before e h name.Unit w not-unit) ∙ r))
   untested_kept w j false q r =
@@ -131,7 +131,7 @@ module _ (h : List Event) (b : Book) (k : Kept h b) (unit component : ℕ) (numb
     abbrev test : Event
     test = record { call = call.Unit unit (unit-call.Test component trial); readings = readings }
 
-    there : (last_that (about name.Unit unit) h ≡ never → ⊥) × (test_number trial.ending trial.tc trial.count readings ≡ 0)
+    there : (last_that (about name.Unit unit) h ≡ None → ⊥) × (test_number trial.ending trial.tc trial.count readings ≡ 0)
     there =
         let l = last_that (about name.Unit unit) h in
         enrolled_passed l (λ kind. has_test kind component) (test_number trial.ending trial.tc trial.count readings)
@@ -187,7 +187,7 @@ module _ (h : List Event) (b : Book) (k : Kept h b) (unit component : ℕ) (numb
     abbrev availability : Event
     availability = record { call = call.Unit unit (unit-call.Availability component m); readings = readings }
 
-    available_there : (last_that (about name.Unit unit) h ≡ never → ⊥) × (availability_number m ≡ 0)
+    available_there : (last_that (about name.Unit unit) h ≡ None → ⊥) × (availability_number m ≡ 0)
     available_there =
         let l = last_that (about name.Unit unit) h in
         enrolled_passed l (λ kind. has_availability kind component) (availability_number m)

@@ -1,4 +1,5 @@
 -- The consumers that a history tells of: their declarations as weights, and their firm demands as shares.
+use Rattle.std.specs.Prelude.{Option, None, Some}
 use mathlib.Core.Path.{◌≡◌, refl, sym, ap, ◌∙◌}
 use mathlib.Core.Bool.{true}
 use mathlib.Core.List.{List, map}
@@ -15,14 +16,14 @@ use Rattle.quantities.specs.Limits.{consumers}
 use Rattle.state.specs.declared.kept.Consumer.{Consumer}
 use Rattle.book.specs.Lists.{Event}
 use Rattle.fix.specs.Fix.{declared_by, weights_of}
-use Rattle.claims.specs.History.{Last, never, last, field_in, fixed_in, dmp_in, declared_in}
+use Rattle.claims.specs.History.{field_in, fixed_in, dmp_in, declared_in}
 use Rattle.claims.specs.Figures.{declarations_in, total_declared_in, demand_in, declaration_by, consumer_in, consumers_in}
 use Rattle.state.specs.State.{firm_demand_by}
 use Rattle.claims.proofs.Tables.{map-tab}
 
-weight_of : (df : ℕ) (l : Last) → declared_by (declaration_by df l) ≡ field_in 1 l
-weight_of df never = refl
-weight_of df (last e) = refl
+weight_of : (df : ℕ) (l : Option Event) → declared_by (declaration_by df l) ≡ field_in 1 l
+weight_of df None = refl
+weight_of df (Some e) = refl
 
 -- the weights of the consumers are their declarations
 pub weights_in : (h : List Event) → weights_of (consumers_in h) ≡ declarations_in h
@@ -53,10 +54,10 @@ module _ (h : List Event) (fixed : fixed_in h ≡ true) (shared : division_numbe
       omega (arith, demand_at i, at_most_sum (shares (dmp_in h) (declarations_in h)) i, sum-shares (dmp_in h) (declarations_in h) total_positive)
 
   -- the firm demand in a declaration, where the undeclared have 0
-  of_declaration : (i : ℕ) → i < consumers → (l : Last) → declared_in h (suc i) ≡ l → firm_demand_by (declaration_by (demand_in h (suc i)) l) ≡ get_or (shares (dmp_in h) (declarations_in h)) i 0
-  of_declaration i p never q =
+  of_declaration : (i : ℕ) → i < consumers → (l : Option Event) → declared_in h (suc i) ≡ l → firm_demand_by (declaration_by (demand_in h (suc i)) l) ≡ get_or (shares (dmp_in h) (declarations_in h)) i 0
+  of_declaration i p None q =
       sym (share_of_zero (dmp_in h) (declarations_in h) total_positive i (declaration_at h i p ∙ ap (field_in 1) q))
-  of_declaration i p (last e) q = demand_at i
+  of_declaration i p (Some e) q = demand_at i
 
   pub demand_in_lem : (i : ℕ) → i < consumers → firm_demand_by (consumer_in h (suc i)).declaration ≡ get_or (shares (dmp_in h) (declarations_in h)) i 0
   demand_in_lem i p = of_declaration i p (declared_in h (suc i)) refl

@@ -1,4 +1,5 @@
 -- The fix: an accepted one keeps what is kept, and the number of any one.
+use Rattle.std.specs.Prelude.{Option, None, Some}
 use mathlib.Core.Path.{◌≡◌, refl, sym, ap, ◌∙◌}
 use mathlib.Core.Bool.{true, false, false≢true}
 use mathlib.Core.List.{List, [], ◌∷◌}
@@ -26,7 +27,7 @@ use Rattle.state.specs.declared.kept.Book.{Book}
 use Rattle.state.specs.State.{fresh_consumer, row_of}
 use Rattle.fix.specs.Fix.{offers_of, efficient_in, limits_of, weights_of, demand_by, with_demand, with_demands, fix_rest, fix_number_by, fix_number, fixed}
 use Rattle.book.specs.Lists.{Event}
-use Rattle.claims.specs.History.{Last, never, last, is_a, last_that, begun_in, fixed_in, closed_in, hours_in, dmp_in, declared_in}
+use Rattle.claims.specs.History.{is_a, last_that, begun_in, fixed_in, closed_in, hours_in, dmp_in, declared_in}
 use Rattle.claims.specs.Figures.{units_in, offers_in, efficient_offers_in, declarations_in, total_declared_in, demand_in, declaration_by, reading_by, consumer_in, consumers_in}
 use Rattle.claims.specs.Refusals.{number_in}
 use Rattle.claims.proofs.SameFigures.{consumer_is, last_this, about_as_before, hours_as_before, closed_as_before, declarations_as_before, sum_as_before}
@@ -60,7 +61,7 @@ module _ (h : List Event) (b : Book) (k : Kept h b) (dmp : ℕ) (readings : List
   was_gathering : (closed_in h ≡ false) × (fixed_in h ≡ false) × (begun_in h ≡ true)
   was_gathering = gathering_is (closed_in h) (fixed_in h) (begun_in h) (sym k.timing.stage_kept ∙ shown.stage)
 
-  this : last_that (is_a name.Fix) (fix ∷ h) ≡ last fix
+  this : last_that (is_a name.Fix) (fix ∷ h) ≡ Some fix
   unfolding parts_of
   this = last_this fix h (is_a name.Fix) refl
 
@@ -107,9 +108,9 @@ module _ (h : List Event) (b : Book) (k : Kept h b) (dmp : ℕ) (readings : List
       ∙ ap (λ t. get_or (shares t (declarations_in (fix ∷ h))) i 0) (sym now_dmp)
       ∙ sym (rw (now_fixed, e) refl)
 
-  given : (df other : ℕ) (l : Last) → demand_by df (declaration_by other l) ≡ declaration_by df l
-  given df other never = refl
-  given df other (last e) = refl
+  given : (df other : ℕ) (l : Option Event) → demand_by df (declaration_by other l) ≡ declaration_by df l
+  given df other None = refl
+  given df other (Some e) = refl
 
   consumer_now : (i : ℕ) → i < consumers → with_demand (get_or (shares dmp (weights_of b.consumers)) i 0) (get_or b.consumers i fresh_consumer) ≡ consumer_in (fix ∷ h) (suc i)
   unfolding consumers_in parts_of

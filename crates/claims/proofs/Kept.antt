@@ -24,7 +24,7 @@ use Rattle.state.specs.State.{cells, cell_of, row_of, stage_number}
 use Rattle.gathering.specs.Units.{cap_of}
 use Rattle.fix.specs.Fix.{limits_of}
 use Rattle.book.specs.Lists.{Event}
-use Rattle.claims.specs.History.{never, last_that, about, fixed_in, closed_in, stage_in, hours_in, dmp_in, field_in, declared_in, commitments_in, releases_in, entry_in, component_in}
+use Rattle.claims.specs.History.{last_that, about, fixed_in, closed_in, stage_in, hours_in, dmp_in, field_in, declared_in, commitments_in, releases_in, entry_in, component_in}
 use Rattle.claims.specs.Figures.{units_in, offers_in, efficient_offers_in, declarations_in, consumers_in, adjusted_demands_in, positive_adjustments_in, all_charges_in, all_credits_in, undistributed_in}
 
 pub record Timing (h : List Event) (stage : Stage) (hours : Hours) (dmp : ℕ) : Type 0 where
@@ -41,7 +41,7 @@ pub record Plants (h : List Event) (us : List Unit) : Type 0 where
   pub units_kept : us ≡ units_in h
   pub power_capped : (u k : ℕ) → Within (cap_of (entry_in h u)) (component_in h u k)
   pub power_small : (u k : ℕ) → (maximum_power (component_in h u k)).0 ≤ greatest_power
-  pub untested : (u k : ℕ) → last_that (about name.Unit u) h ≡ never → component_in h u k ≡ fresh
+  pub untested : (u k : ℕ) → last_that (about name.Unit u) h ≡ None → component_in h u k ≡ fresh
 
 pub record ConsumersKept (h : List Event) (xs : List Consumer) : Type 0 where
   pub consumers_kept : xs ≡ consumers_in h

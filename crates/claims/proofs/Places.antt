@@ -1,4 +1,5 @@
 -- What stands at a unit and at a consumer of the book, and what a store there makes of the others.
+use Rattle.std.specs.Prelude.{Option, None, Some}
 use mathlib.Core.Path.{◌≡◌, refl, ap, ◌∙◌}
 use mathlib.Core.List.{List, ◌∷◌}
 use Prim.Native.Nat.{ℕ, suc, ◌-◌}
@@ -15,7 +16,7 @@ use Rattle.state.specs.declared.kept.Book.{Book}
 use Rattle.state.specs.State.{fresh_unit, fresh_consumer, unit_at, consumer_at}
 use Rattle.decision.specs.Consumers.{known}
 use Rattle.book.specs.Lists.{Event}
-use Rattle.claims.specs.History.{Last, never, last, happened, declared_in}
+use Rattle.claims.specs.History.{happened, declared_in}
 use Rattle.claims.specs.Figures.{unit_in, units_in, demand_in, declaration_by, consumer_in, consumers_in}
 use Rattle.claims.specs.Refusals.{declared_to}
 use Rattle.claims.proofs.Tables.{tab-set}
@@ -35,9 +36,9 @@ module _ {A : Type 0} (f : ℕ → A) (n : ℕ) (x : ℕ) (p : Numbered n x) whe
       (λ j o. others (suc j) (λ r. o (omega arith)))
 
 -- consumer not declared: number 10
-known_in : (df rest : ℕ) (l : Last) → known (declaration_by df l) rest ≡ pick (happened l) rest 10
-known_in df rest never = refl
-known_in df rest (last e) = refl
+known_in : (df rest : ℕ) (l : Option Event) → known (declaration_by df l) rest ≡ pick (happened l) rest 10
+known_in df rest None = refl
+known_in df rest (Some e) = refl
 
 module _ (h : List Event) (b : Book) (k : Kept h b) where
   pub unit_at_lem : (u : ℕ) → Numbered units u → unit_at b.units u ≡ unit_in h u

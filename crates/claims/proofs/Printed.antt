@@ -1,4 +1,5 @@
 -- The printed close of every list: the figures fit their columns, and the lines are those of the accepted calls.
+use Rattle.std.specs.Prelude.{Option, None, Some}
 use mathlib.Core.Path.{◌≡◌, refl, sym, ap, ◌∙◌}
 use mathlib.Core.Bool.{Bool, true, false, false≢true}
 use mathlib.Core.List.{List, [], ◌∷◌, map}
@@ -24,7 +25,7 @@ use Rattle.page.proofs.Whole.{line-whole, heading_whole}
 use Rattle.page.proofs.Paging.{always_paged}
 use Rattle.page.proofs.Answers.{length-text}
 use Rattle.book.specs.Lists.{Event, after_all, accepted_by}
-use Rattle.claims.specs.History.{Last, never, last, happened, field_in, begun_in, fixed_in, closed_in, declared_in}
+use Rattle.claims.specs.History.{happened, field_in, begun_in, fixed_in, closed_in, declared_in}
 use Rattle.claims.specs.Figures.{demand_in, declarations_in, declaration_by, consumer_in, consumers_in, adjusted_demands_in, all_charges_in, all_credits_in}
 use Rattle.claims.specs.Demand.{Demand3}
 use Rattle.claims.specs.Printed.{declared_number, declared_consumers_in, adjusted_demand_in, charge_in, credit_in, whole_line_in, whole_lines_in, PrintedClose, AlwaysPrinted}
@@ -35,9 +36,9 @@ use Rattle.claims.proofs.Lists.{kept}
 use Rattle.claims.proofs.Theorem.{demand3}
 
 -- a consumer's number stands where it is declared
-number_by : (number df : ℕ) (l : Last) → number_if number (declaration_by df l) ≡ pick (happened l) (number ∷ []) []
-number_by number df never = refl
-number_by number df (last e) = refl
+number_by : (number df : ℕ) (l : Option Event) → number_if number (declaration_by df l) ≡ pick (happened l) (number ∷ []) []
+number_by number df None = refl
+number_by number df (Some e) = refl
 
 -- the number of a consumer has at most three digits
 digits_3 : (c : ℕ) → c ≤ consumers → length (amount_of (plain c)) ≤ 3
@@ -116,9 +117,9 @@ module _ (h : List Event) (b : Book) (k : Kept h b) (d : Demand3 h b) where
     unfolding declared_consumers_in
     some = go (length (declared_consumers_in h)) refl
       where
-        undeclared : (l : Last) → happened l ≡ false → field_in 1 l ≡ 0
-        undeclared never q = refl
-        undeclared (last x) q = absurd (false≢true (sym q))
+        undeclared : (l : Option Event) → happened l ≡ false → field_in 1 l ≡ 0
+        undeclared None q = refl
+        undeclared (Some x) q = absurd (false≢true (sym q))
 
         nothing : length (declared_consumers_in h) ≡ 0 → (i : ℕ) → i < length (declarations_in h) → get_or (declarations_in h) i 0 ≤ 0
         nothing e i p =

@@ -1,5 +1,5 @@
 -- The figures of a history that a further call leaves as they were.
-use Rattle.std.specs.Prelude.{Option}
+use Rattle.std.specs.Prelude.{Option, Some}
 use Rattle.state.specs.declared.kept.Entry.{Entry}
 use mathlib.Core.Path.{◌≡◌, refl, ap, ◌∙◌}
 use mathlib.Core.Bool.{Bool, true, false}
@@ -17,7 +17,7 @@ use Rattle.state.specs.declared.kept.Unit.{Unit}
 use Rattle.state.specs.declared.kept.Declaration.{Declaration}
 use Rattle.state.specs.declared.kept.Consumer.{Consumer}
 use Rattle.book.specs.Lists.{Event}
-use Rattle.claims.specs.History.{is_a, field, about, about_pair, last, last_that, field_in, happened, begun_in, fixed_in, closed_in, hours_in, dmp_in, declared_in, metered_in, sum_over, entry_by, entry_in, component_in}
+use Rattle.claims.specs.History.{is_a, field, about, about_pair, last_that, field_in, happened, begun_in, fixed_in, closed_in, hours_in, dmp_in, declared_in, metered_in, sum_over, entry_by, entry_in, component_in}
 use Rattle.claims.specs.Figures.{unit_in, units_in, declarations_in, demand_in, declaration_by, reading_by, consumer_in, consumers_in}
 
 pub unit_is : {a b : Option Entry} {s t g k x y : Component} → a ≡ b → s ≡ t → g ≡ k → x ≡ y → ◌≡◌ {A = Unit} (record { enrolment = a; components = record { set = s; generator = g; storage = x } }) (record { enrolment = b; components = record { set = t; generator = k; storage = y } })
@@ -29,11 +29,11 @@ consumer_is p q = λ i. record { declaration = p i; reading = q i }
 module _ (e : Event) (h : List Event) where
   pub last_as_before : (kind : Event → Bool) → kind e ≡ false → last_that kind (e ∷ h) ≡ last_that kind h
   unfolding last_that
-  last_as_before kind q = ap (λ t. pick t (last e) (last_that kind h)) q
+  last_as_before kind q = ap (λ t. pick t (Some e) (last_that kind h)) q
 
-  pub last_this : (kind : Event → Bool) → kind e ≡ true → last_that kind (e ∷ h) ≡ last e
+  pub last_this : (kind : Event → Bool) → kind e ≡ true → last_that kind (e ∷ h) ≡ Some e
   unfolding last_that
-  last_this kind q = ap (λ t. pick t (last e) (last_that kind h)) q
+  last_this kind q = ap (λ t. pick t (Some e) (last_that kind h)) q
 
   pub about-other : (n : CallName) (x : ℕ) → is_a n e ≡ false → about n x e ≡ false
   about-other n x q = ap (λ t. pick t (eqb (field 0 e) x) false) q
@@ -51,7 +51,7 @@ module _ (e : Event) (h : List Event) where
   pub about_as_before : (n : CallName) (x : ℕ) → is_a n e ≡ false → last_that (about n x) (e ∷ h) ≡ last_that (about n x) h
   about_as_before n x q = last_as_before (about n x) (about-other n x q)
 
-  pub about-last : (n : CallName) (x : ℕ) → is_a n e ≡ true → eqb (field 0 e) x ≡ true → last_that (about n x) (e ∷ h) ≡ last e
+  pub about-last : (n : CallName) (x : ℕ) → is_a n e ≡ true → eqb (field 0 e) x ≡ true → last_that (about n x) (e ∷ h) ≡ Some e
   about-last n x q r = last_this (about n x) (about_this n x q ∙ r)
 
   -- and where the call is of that name, about another number

@@ -1,5 +1,5 @@
 -- Demand 3, from what every list keeps.
-use Rattle.std.specs.Prelude.{Some}
+use Rattle.std.specs.Prelude.{Some, Option, None}
 use mathlib.Core.Path.{◌≡◌, refl, sym, ap, ◌∙◌, subst}
 use mathlib.Core.Bool.{Bool, true, false}
 use mathlib.Core.List.{List, [], map}
@@ -25,7 +25,7 @@ use Rattle.state.specs.State.{fresh_book, firm_demand_by, row_of}
 use Rattle.gathering.specs.Units.{cap_of}
 use Rattle.close.specs.Close.{credits_of, undistributed_of}
 use Rattle.book.specs.Lists.{Event, after_all, accepted_by}
-use Rattle.claims.specs.History.{Last, never, last, field, field_in, last_that, about, fixed_in, closed_in, dmp_in, declared_in, entry_by, entry_in, component_in}
+use Rattle.claims.specs.History.{field, field_in, last_that, about, fixed_in, closed_in, dmp_in, declared_in, entry_by, entry_in, component_in}
 use Rattle.claims.specs.Figures.{efficient_offer_in, producer_offer_in, declarations_in, total_declared_in, demand_in, consumer_in, declaration_by, positive_adjustments_in, all_charges_in, all_credits_in, undistributed_in}
 use Rattle.claims.specs.Demand.{demand_of, NoSurplus, Demand3, Claim}
 use Rattle.claims.proofs.Kept.{Within, Kept}
@@ -72,12 +72,12 @@ module _ (h : List Event) (b : Book) (k : Kept h b) where
       zero-demand : demand_in h c ≡ 0
       zero-demand = rw q refl
 
-      none : (l : Last) → firm_demand_by (declaration_by (demand_in h c) l) ≡ 0
-      none never = refl
-      none (last e) = zero-demand
+      none : (l : Option Event) → firm_demand_by (declaration_by (demand_in h c) l) ≡ 0
+      none None = refl
+      none (Some e) = zero-demand
 
   -- the injection of a unit whose call gives one
-  injection : (u : ℕ) (e : Event) → Numbered units u → last_that (about name.Unit u) h ≡ last e → flagged injection_given (field 3 e) ≡ true → efficient_offer_in h u ≤ field 4 e
+  injection : (u : ℕ) (e : Event) → Numbered units u → last_that (about name.Unit u) h ≡ Some e → flagged injection_given (field 3 e) ≡ true → efficient_offer_in h u ≤ field 4 e
   injection u e nu q f =
       let cap : cap_of (entry_in h u) ≡ Some (record { 0 = field 4 e }) = ap (λ l. cap_of (entry_by l)) q ∙ rw f refl in
       le_trans (within_power h u nu) (subst (λ c. Within c (component_in h u 0)) cap (k.plants.power_capped u 0))

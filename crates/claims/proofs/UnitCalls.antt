@@ -33,7 +33,7 @@ use Rattle.state.specs.declared.kept.Book.{Book}
 use Rattle.state.specs.State.{unit_at, ranged}
 use Rattle.gathering.specs.Units.{vacancy, entry_of, cap_of, enrolled_unit, has_test, has_availability, unit_rest, unit_after, unit_number, after_unit}
 use Rattle.book.specs.Lists.{Event}
-use Rattle.claims.specs.History.{Last, never, last, happened, about, last_that, fixed_in, closed_in, begun_in, entry_by, entry_in, component_in}
+use Rattle.claims.specs.History.{happened, about, last_that, fixed_in, closed_in, begun_in, entry_by, entry_in, component_in}
 use Rattle.claims.specs.Figures.{unit_in}
 use Rattle.claims.specs.Refusals.{at_stage, already_enrolled, enrolled_as, number_in}
 use Rattle.claims.proofs.SameFigures.{unit_is, about-last, about_another, component_as_before}
@@ -45,9 +45,9 @@ use Rattle.claims.proofs.Places.{unit_at_lem, unit-stored}
 use Rattle.claims.proofs.Components.{test_in, available_in, test_plants, availability_plants}
 
 -- no unit is enrolled under the number
-vacant_never : (l : Last) → vacancy (entry_by l) ≡ 0 → l ≡ never
-vacant_never never z = refl
-vacant_never (last e) z = absurd (omega arith)
+vacant_never : (l : Option Event) → vacancy (entry_by l) ≡ 0 → l ≡ None
+vacant_never None z = refl
+vacant_never (Some e) z = absurd (omega arith)
 
 -- without a test every injection is kept to
 fresh-within : (c : Option Kw) → Within c fresh
@@ -63,12 +63,12 @@ module _ (h : List Event) (b : Book) (k : Kept h b) (unit : ℕ) (enrolling : En
   abbrev enrol : Event
   enrol = record { call = call.Unit unit (Enrol enrolling); readings = readings }
 
-  new : last_that (about name.Unit unit) h ≡ never
+  new : last_that (about name.Unit unit) h ≡ None
   new =
       vacant_never (last_that (about name.Unit unit) h)
       (ap (λ (u : Unit). vacancy u.enrolment) (sym (unit_at_lem h b k unit numbered)) ∙ z)
 
-  this_unit : last_that (about name.Unit unit) (enrol ∷ h) ≡ last enrol
+  this_unit : last_that (about name.Unit unit) (enrol ∷ h) ≡ Some enrol
   unfolding parts_of
   this_unit = about-last enrol h name.Unit unit refl (eq-eqb unit unit refl)
 
@@ -80,7 +80,7 @@ module _ (h : List Event) (b : Book) (k : Kept h b) (unit : ℕ) (enrolling : En
   unfolding parts_of
   same_component u j = component_as_before enrol h refl refl u j
 
-  of_unit : (u : ℕ) (t : Bool) → eqb u unit ≡ t → (Within (cap_of (entry_in (enrol ∷ h) u)) fresh) → ((j : ℕ) → Within (cap_of (entry_in (enrol ∷ h) u)) (component_in (enrol ∷ h) u j)) × ((j : ℕ) → last_that (about name.Unit u) (enrol ∷ h) ≡ never → component_in (enrol ∷ h) u j ≡ fresh)
+  of_unit : (u : ℕ) (t : Bool) → eqb u unit ≡ t → (Within (cap_of (entry_in (enrol ∷ h) u)) fresh) → ((j : ℕ) → Within (cap_of (entry_in (enrol ∷ h) u)) (component_in (enrol ∷ h) u j)) × ((j : ℕ) → last_that (about name.Unit u) (enrol ∷ h) ≡ None → component_in (enrol ∷ h) u j ≡ fresh)
   of_unit u true q w =
       let s = eqb-true u unit q in
       let nothing : (j : ℕ) → component_in (enrol ∷ h) u j ≡ fresh =
@@ -114,9 +114,9 @@ beside_plants unit (Test component trial) readings = (refl, refl, refl, refl, re
 beside_plants unit (Availability component m) readings = (refl, refl, refl, refl, refl)
 
 -- the number behind 3 and 4: of an enrolment, of a test in range, and of an availability in range
-vacancy_in : (l : Last) → vacancy (entry_by l) ≡ pick (happened l) 5 0
-vacancy_in never = refl
-vacancy_in (last e) = refl
+vacancy_in : (l : Option Event) → vacancy (entry_by l) ≡ pick (happened l) 5 0
+vacancy_in None = refl
+vacancy_in (Some e) = refl
 
 test-number : (unit component : ℕ) (trial : Trial) (rs : List ℕ) → call_number (call.Unit unit (Test component trial)) rs ≡ 0 → test_number trial.ending trial.tc trial.count rs ≡ pick (count_fits trial.ending trial.tc trial.count) 0 8
 unfolding rest_in_range
@@ -165,7 +165,7 @@ module _ (h : List Event) (b : Book) (k : Kept h b) (unit : ℕ) where
       behind h b.stage k.timing.stage_kept (call.Unit unit act) readings Gathering (unit_rest act was readings) theirs
       (λ z s. ap (λ u. unit_rest act u readings) (unit_at_lem h b k unit (unit-numbered unit act readings z)) ∙ f z)
 
-  abbrev enrolment : Last
+  abbrev enrolment : Option Event
   enrolment = last_that (about name.Unit unit) h
 
   pub unit_exact : (act : UnitCall) (readings : List ℕ) → unit_number unit act b.stage was readings ≡ number_in h (call.Unit unit act) readings

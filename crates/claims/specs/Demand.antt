@@ -1,5 +1,5 @@
 -- Demand 3: one claim about every list of calls, accepted and refused, from a fresh book ("The list of demand 3").
-use Rattle.std.specs.Prelude.{◌≡◌, true, List, [], map, ℕ, ◌+◌, ◌-◌, ◌*◌, ◌≤◌, ◌<◌, get_or}
+use Rattle.std.specs.Prelude.{◌≡◌, true, List, [], map, ℕ, ◌+◌, ◌-◌, ◌*◌, ◌≤◌, ◌<◌, get_or, Some}
 use Rattle.basis.specs.Sums.{sum}
 use Rattle.quantities.specs.Limits.{units, producers, consumers}
 use Rattle.quantities.specs.Flags.{flagged, injection_given}
@@ -7,7 +7,7 @@ use Rattle.table.specs.Records as name
 use Rattle.state.specs.declared.kept.Book.{Book}
 use Rattle.state.specs.State.{fresh_book, consumer_at, firm_demand_by, cell_of, row_of}
 use Rattle.book.specs.Lists.{Event, after_all, accepted_by}
-use Rattle.claims.specs.History.{last, field, field_in, last_that, about, fixed_in, closed_in, dmp_in, declared_in, commitments_in, releases_in}
+use Rattle.claims.specs.History.{field, field_in, last_that, about, fixed_in, closed_in, dmp_in, declared_in, commitments_in, releases_in}
 use Rattle.claims.specs.Figures.{power_in, offers_in, efficient_offers_in, efficient_offer_in, producer_offer_in, total_declared_in, demand_in, adjusted_demands_in, positive_adjustments_in, all_charges_in, all_credits_in, undistributed_in}
 
 -- the firm demand that the book has for a consumer, and for all of them
@@ -39,7 +39,7 @@ pub record Demand3 (h : List Event) (b : Book) : Type 0 where
   -- "none above that unit's maximum power,"
   pub offer_within_power : (u : ℕ) → 1 ≤ u → u ≤ units → efficient_offer_in h u ≤ power_in h u
   -- "nor above its authorised injection where one is given."
-  pub offer_within_injection : (u : ℕ) (e : Event) → 1 ≤ u → u ≤ units → last_that (about name.Unit u) h ≡ last e → flagged injection_given (field 3 e) ≡ true → efficient_offer_in h u ≤ field 4 e
+  pub offer_within_injection : (u : ℕ) (e : Event) → 1 ≤ u → u ≤ units → last_that (about name.Unit u) h ≡ Some e → flagged injection_given (field 3 e) ≡ true → efficient_offer_in h u ≤ field 4 e
   -- "Once closed, charges equal credits plus the undistributed amount,"
   pub money_balances : closed_in h ≡ true → b.closing.charged ≡ b.closing.credited + b.closing.undistributed
   -- "which is the whole of the charges if no consumer has a positive adjustment and otherwise zero."

@@ -13,7 +13,7 @@ use Rattle.state.specs.declared.kept.Consumer.{Consumer}
 use Rattle.book.specs.Lists.{Event}
 use Rattle.fix.specs.Fix.{offers_of, efficient_in, producer_by}
 use Rattle.close.specs.Close.{adjusted_in, surpluses_in, charges_in, credits_of, undistributed_of}
-use Rattle.claims.specs.History.{Last, never, last, field, field_in, fixed_in, hours_in, dmp_in, price_in, declared_in, metered_in, entry_in, component_in}
+use Rattle.claims.specs.History.{field, field_in, fixed_in, hours_in, dmp_in, price_in, declared_in, metered_in, entry_in, component_in}
 
 -- a unit and its components
 abbrev pub unit_in : List Event → ℕ → Unit
@@ -62,13 +62,13 @@ unfoldable pub demand_in : List Event → ℕ → ℕ
 demand_in h c = pick (fixed_in h) (get_or (shares (dmp_in h) (declarations_in h)) (c - 1) 0) 0
 
 -- what a consumer declared, with its firm demand, and its reading
-abbrev pub declaration_by : ℕ → Last → Declaration
-declaration_by df never = Undeclared
-declaration_by df (last e) = Declared (record { d = field 1 e; a = field 2 e; df = df })
+abbrev pub declaration_by : ℕ → Option Event → Declaration
+declaration_by df None = Undeclared
+declaration_by df (Some e) = Declared (record { d = field 1 e; a = field 2 e; df = df })
 
-abbrev pub reading_by : Last → Option ℕ
-reading_by never = None
-reading_by (last e) = Some (field 1 e)
+abbrev pub reading_by : Option Event → Option ℕ
+reading_by None = None
+reading_by (Some e) = Some (field 1 e)
 
 abbrev pub consumer_in : List Event → ℕ → Consumer
 consumer_in h c =

@@ -1,7 +1,8 @@
 -- What the accepted calls of a list say, the last one first. No book stands here.
 use Rattle.state.specs.declared.kept.Entry.{Entry}
 use Rattle.power.specs.declared.quantity.Kw.{Kw}
-use Rattle.std.specs.Prelude.{Bool, true, false, List, [], ◌∷◌, ℕ, ◌+◌, eqb, get_or, Option, None, Some}
+use Rattle.std.specs.Prelude.{Bool, false, List, [], ◌∷◌, ℕ, ◌+◌, eqb, get_or, Option, None, Some, is_some}
+use Rattle.std.specs.List.{find}
 use Rattle.basis.specs.Choice.{pick}
 use Rattle.power.specs.Power.{fresh, energy_of, measured_of, after_test}
 use Rattle.plant.specs.Availability.{minutes}
@@ -27,23 +28,17 @@ about n x e = pick (is_a n e) (eqb (field 0 e) x) false
 abbrev pub about_pair : CallName → ℕ → ℕ → Event → Bool
 about_pair n x y e = pick (about n x e) (eqb (field 1 e) y) false
 
--- the last accepted call of a kind, if any
-pub data Last : Type 0 where
-  never : Last
-  last : Event → Last
-
-unfoldable pub last_that : (Event → Bool) → List Event → Last
-last_that kind [] = never
-last_that kind (e ∷ h) = pick (kind e) (last e) (last_that kind h)
+-- the last accepted call of a kind, if any: the first one of the list that has the last one first
+unfoldable pub last_that : (Event → Bool) → List Event → Option Event
+last_that kind h = find kind h
 
 -- a field of it, 0 without one
-abbrev pub field_in : ℕ → Last → ℕ
-field_in i never = 0
-field_in i (last e) = field i e
+abbrev pub field_in : ℕ → Option Event → ℕ
+field_in i None = 0
+field_in i (Some e) = field i e
 
-abbrev pub happened : Last → Bool
-happened never = false
-happened (last e) = true
+abbrev pub happened : Option Event → Bool
+happened l = is_some l
 
 -- the year is fixed, or closed, "when the list has an accepted fix, or close"
 abbrev pub begun_in : List Event → Bool
@@ -76,11 +71,11 @@ abbrev pub price_in : List Event → ℕ
 price_in h = field_in 0 (last_that (is_a name.Close) h)
 
 -- "the D of the consumer's last accepted declare, 0 without one", and its A
-abbrev pub declared_in : List Event → ℕ → Last
+abbrev pub declared_in : List Event → ℕ → Option Event
 declared_in h c = last_that (about name.Declare c) h
 
 -- Dreal of the consumer's last accepted reading
-abbrev pub metered_in : List Event → ℕ → Last
+abbrev pub metered_in : List Event → ℕ → Option Event
 metered_in h c = last_that (about name.Meter c) h
 
 -- "Commitments and releases are the sums of q over the pair's accepted calls."
@@ -95,9 +90,9 @@ abbrev pub releases_in : List Event → ℕ → ℕ → ℕ
 releases_in h p c = sum_over name.Release p c h
 
 -- what a unit was enrolled with: "A producer's units are those of its accepted unit calls"
-abbrev pub entry_by : Last → Option Entry
-entry_by never = None
-entry_by (last e) =
+abbrev pub entry_by : Option Event → Option Entry
+entry_by None = None
+entry_by (Some e) =
     Some (entry_of (field 1 e) (field 2 e) (field 3 e) (field 4 e) (field 5 e) (field 6 e) (field 7 e) (field 8 e))
 
 abbrev pub entry_in : List Event → ℕ → Option Entry

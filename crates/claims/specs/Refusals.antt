@@ -1,5 +1,5 @@
 -- The number that a call meets, by the listed conditions over the accepted calls before it ("Numbered replies").
-use Rattle.std.specs.Prelude.{◌≡◌, List, [], ℕ, suc, ◌+◌, ◌-◌, eqb, ltb}
+use Rattle.std.specs.Prelude.{◌≡◌, List, [], ℕ, suc, ◌+◌, ◌-◌, eqb, ltb, Option, None, Some}
 use Rattle.basis.specs.Choice.{pick}
 use Rattle.basis.specs.Sums.{sum_up, all_at_most}
 use Rattle.quantities.specs.Limits.{greatest_power, consumers}
@@ -14,7 +14,7 @@ use Rattle.table.specs.Records as name
 use Rattle.state.specs.State.{fresh_book, ranged}
 use Rattle.gathering.specs.Units.{has_test, has_availability}
 use Rattle.book.specs.Lists.{Event, reply_to, after_all, accepted_by}
-use Rattle.claims.specs.History.{Last, never, last, field, last_that, about, happened, stage_in, declared_in, commitments_in, releases_in}
+use Rattle.claims.specs.History.{field, last_that, about, happened, stage_in, declared_in, commitments_in, releases_in}
 use Rattle.claims.specs.Figures.{producer_offer_in, total_declared_in, adjusted_demands_in}
 
 -- 4: stage
@@ -25,9 +25,9 @@ at_stage own h rest = pick (eqb (stage_in h) own) rest 4
 abbrev pub already_enrolled : List Event → ℕ → ℕ
 already_enrolled h u = pick (happened (last_that (about name.Unit u) h)) 5 0
 
-abbrev pub enrolled_as : Last → (ℕ → ℕ) → ℕ
-enrolled_as never rest = 6
-enrolled_as (last e) rest = rest (field 2 e)
+abbrev pub enrolled_as : Option Event → (ℕ → ℕ) → ℕ
+enrolled_as None rest = 6
+enrolled_as (Some e) rest = rest (field 2 e)
 
 -- 10: consumer not declared
 abbrev pub declared_to : List Event → ℕ → ℕ → ℕ
