@@ -1,7 +1,7 @@
 -- The thirteen cases, by running the definitions.
 use mathlib.Core.Path.{refl}
 use Rattle.basis.specs.Numbers.{number, bytes_of, all_bytes_of}
-use Rattle.basis.specs.Sums.{sum, sum_up, all_at_most, greatest}
+use Rattle.basis.specs.Sums.{sum_up, greatest}
 use Rattle.basis.specs.Tables.{tab_from}
 use Rattle.share.specs.Division.{whole_parts, remainders, first_place_of, largest, give, shares, division_number, divided}
 use Rattle.plant.specs.Availability.{availability_of, times_c}

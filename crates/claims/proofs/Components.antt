@@ -12,7 +12,7 @@ use lib.ListN.{set}
 use Rattle.basis.specs.Choice.{pick}
 use Rattle.basis.proofs.Choice.{peel_not}
 use Rattle.power.specs.Power.{fresh, maximum_power, test_number, test_of, energy_of, measured_of, after_test}
-use Rattle.plant.specs.Availability.{minutes, availability_number, availability_of}
+use Rattle.plant.specs.Availability.{availability_number, availability_of}
 use Rattle.quantities.specs.Limits.{greatest_power, greatest_component, units}
 use Rattle.power.specs.declared.quantity.Kw.{Kw}
 use Rattle.power.specs.declared.component.Component.{Component}
@@ -37,15 +37,15 @@ use Rattle.claims.proofs.Kept.{Within, Plants, Kept}
 use Rattle.claims.proofs.Places.{unit_at_lem, unit-stored}
 
 -- the number of a call on a component behind 3 and 4, from its unit's last accepted enrolment
-pub test_in : (l : Option Event) (component ending tc count : ℕ) (readings : List ℕ) → test_rest (entry_by l) component ending tc count readings ≡ enrolled_as l (λ kind. pick (has_test kind component) (test_number ending tc count readings) 7)
+pub test_in : (l : Option Event) (component : ℕ) (trial : Trial) (readings : List ℕ) → test_rest (entry_by l) component trial.ending trial.tc trial.count readings ≡ enrolled_as l (λ kind. pick (has_test kind component) (test_number trial.ending trial.tc trial.count readings) 7)
 unfolding test_rest
-test_in None component ending tc count readings = refl
-test_in (Some e) component ending tc count readings = refl
+test_in None component trial readings = refl
+test_in (Some e) component trial readings = refl
 
-pub available_in : (l : Option Event) (component hd hmp hif hed : ℕ) → availability_rest (entry_by l) component hd hmp hif hed ≡ enrolled_as l (λ kind. pick (has_availability kind component) (availability_number (minutes hd hmp hif hed)) 7)
+pub available_in : (l : Option Event) (component : ℕ) (m : Minutes) → availability_rest (entry_by l) component m.hd m.hmp m.hif m.hed ≡ enrolled_as l (λ kind. pick (has_availability kind component) (availability_number m) 7)
 unfolding availability_rest
-available_in None component hd hmp hif hed = refl
-available_in (Some e) component hd hmp hif hed = refl
+available_in None component m = refl
+available_in (Some e) component m = refl
 
 -- accepted, the unit is enrolled, and the component's own number is 0
 enrolled_passed : (l : Option Event) (has : ℕ → Bool) (own : ℕ) → enrolled_as l (λ kind. pick (has kind) own 7) ≡ 0 → (l ≡ None → ⊥) × (own ≡ 0)
@@ -135,7 +135,7 @@ module _ (h : List Event) (b : Book) (k : Kept h b) (unit component : ℕ) (numb
     there =
         let l = last_that (about name.Unit unit) h in
         enrolled_passed l (λ kind. has_test kind component) (test_number trial.ending trial.tc trial.count readings)
-        (sym (test_in l component trial.ending trial.tc trial.count readings)
+        (sym (test_in l component trial readings)
         ∙ ap (λ (v : Unit). test_rest v.enrolment component trial.ending trial.tc trial.count readings) (sym (unit_at_lem h b k unit numbered))
         ∙ z)
 
@@ -191,7 +191,7 @@ module _ (h : List Event) (b : Book) (k : Kept h b) (unit component : ℕ) (numb
     available_there =
         let l = last_that (about name.Unit unit) h in
         enrolled_passed l (λ kind. has_availability kind component) (availability_number m)
-        (sym (available_in l component m.hd m.hmp m.hif m.hed)
+        (sym (available_in l component m)
         ∙ ap (λ (v : Unit). availability_rest v.enrolment component m.hd m.hmp m.hif m.hed) (sym (unit_at_lem h b k unit numbered))
         ∙ z)
 

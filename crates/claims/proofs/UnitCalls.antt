@@ -175,8 +175,8 @@ module _ (h : List Event) (b : Book) (k : Kept h b) (unit : ℕ) where
   unit_exact (Test component trial) readings =
       let by : ℕ → ℕ = λ own. enrolled_as enrolment (λ kind. pick (has_test kind component) own 7) in
       exact_by (Test component trial) readings (by (pick (count_fits trial.ending trial.tc trial.count) 0 8))
-      (λ z. test_in enrolment component trial.ending trial.tc trial.count readings ∙ ap by (test-number unit component trial readings z))
+      (λ z. test_in enrolment component trial readings ∙ ap by (test-number unit component trial readings z))
   unit_exact (Availability component m) readings =
       let by : ℕ → ℕ = λ own. enrolled_as enrolment (λ kind. pick (has_availability kind component) own 7) in
       exact_by (Availability component m) readings (by (pick (minutes_fit m) 0 9))
-      (λ z. available_in enrolment component m.hd m.hmp m.hif m.hed ∙ ap by (availability-number unit component m readings z))
+      (λ z. available_in enrolment component m ∙ ap by (availability-number unit component m readings z))
