@@ -12,7 +12,12 @@ pub const LONGEST_BY_UNIT: usize = UNITS * LONGEST_LINE;
 
 // The line U of a unit, none where it is not enrolled.
 #[tactic(auto, unfolding(crate::specs::Letters::unit_line))]
-fn unit_line(number: u64, enrolment: Option<Entry>, offer: u32, efficient: u32) -> Text<LONGEST_LINE>
+fn unit_line(
+    number: u64,
+    enrolment: Option<Entry>,
+    offer: u32,
+    efficient: u32,
+) -> Text<LONGEST_LINE>
     ensures { result ≡ unit_line number enrolment offer efficient }
 {
     match enrolment {

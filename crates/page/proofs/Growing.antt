@@ -1,12 +1,12 @@
 -- The loop over the consumers: the text of the first of them, and what one more adds.
-use Rattle.std.proofs.Common.{◌≡◌, Bool, ℕ, zero, suc, ◌+◌, ◌-◌, ◌≤◌, ◌<◌, zero-le, le_refl, le_trans, List, [], ◌∷◌, ◌++◌, Option, Some, None, cond, length, length-append, get_or, take, map, refl, sym, ap, ◌∙◌, append_assoc, append-nil, arith}
+use Rattle.std.proofs.Common.{◌≡◌, Bool, ℕ, zero, suc, ◌+◌, ◌-◌, ◌≤◌, ◌<◌, zero-le, le_refl, le_trans, List, [], ◌∷◌, ◌++◌, Option, Some, None, cond, length, length-append, get_or, take, map, refl, sym, ap, ◌∙◌, append-nil, arith}
 use mathlib.Core.List.{map-append}
 use native.Mathlib.Numerals.{add-one}
 use lib.ListN.{length-map}
 use lib.Seq.{take_all}
 use borrow.Rule.Slice.PartMut.{put_mid}
 use Rattle.std.specs.Option.{is_some}
-use Rattle.std.specs.List.{count_by, filter}
+use Rattle.std.specs.List.{filter}
 use Rattle.std.proofs.lemmas.List.Filters.{length-filter_more}
 use Rattle.basis.specs.Numbers.{written}
 use Rattle.basis.proofs.Numbers.{written_none, written-append, put_whole}
@@ -19,7 +19,7 @@ use Rattle.state.specs.declared.kept.Figures.{Figures}
 use Rattle.state.specs.declared.kept.Consumer.{Consumer}
 use Rattle.state.specs.declared.kept.CloseFigures.{CloseFigures}
 use Rattle.state.specs.State.{fresh_consumer, figures_of, firm_demand_by}
-use Rattle.page.specs.Page.{number_if, number_at, declared_consumers, line_of, line_for, lines_of, pages_of, line_length, bytes_for, heading_behind}
+use Rattle.page.specs.Page.{number_if, number_at, declared_consumers, line_of, line_for, lines_of, pages_of, bytes_for, heading_behind}
 use Rattle.page.proofs.Lengths.{length-line, one_more, bytes-within}
 use Rattle.page.proofs.Laying.{no_pages, pages_more, pages-length}
 
@@ -109,8 +109,8 @@ module _ (xs : List Consumer) (closing : CloseFigures) where
       let here : i + 1 - 1 ≡ i = omega arith in
       let figures : g ≡ f = cc in
       let shown : line (i + 1) ≡ line_at i f = ap (λ n. line_of (i + 1) (firm_demand_by (get_or xs n fresh_consumer).declaration) (get_or closing.adjusted n 0) (get_or closing.charges n 0) (get_or closing.credits n 0)) here
-          ∙ ap (λ (d : Declaration). line_of (i + 1) (firm_demand_by d) (get_or closing.adjusted i 0) (get_or closing.charges i 0) (get_or closing.credits i 0)) e
-          ∙ ap (line_at i) figures in
+      ∙ ap (λ (d : Declaration). line_of (i + 1) (firm_demand_by d) (get_or closing.adjusted i 0) (get_or closing.charges i 0) (get_or closing.credits i 0)) e
+      ∙ ap (line_at i) figures in
       ap (λ (l : List ℕ). pages_of (map line l)) (joined_more (number_at xs) i ∙ ap (λ (d : Declaration). before ++ number_if (i + 1) d) e)
       ∙ ap pages_of (map-append line before ((i + 1) ∷ []))
       ∙ pages_more (map line before) (line (i + 1))
@@ -159,9 +159,9 @@ module _ (xs : List Consumer) (closing : CloseFigures) where
         record {
           count = counted_more;
           text =
-            put_whole now place n part part (sym m) refl
-            ∙ ap (λ (l : List ℕ). written l place part) s.text
-            ∙ ap (λ k. written (written old 0 (text_to i)) k part) here
-            ∙ sym (written-append old 0 (text_to i) part fits)
-            ∙ ap (written old 0) (sym more);
+              put_whole now place n part part (sym m) refl
+              ∙ ap (λ (l : List ℕ). written l place part) s.text
+              ∙ ap (λ k. written (written old 0 (text_to i)) k part) here
+              ∙ sym (written-append old 0 (text_to i) part fits)
+              ∙ ap (written old 0) (sym more);
         }

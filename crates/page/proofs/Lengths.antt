@@ -1,8 +1,7 @@
 -- Every line has 36 columns and a line feed, and how many bytes lines and headings take.
-use Rattle.std.proofs.Common.{◌≡◌, Bool, true, false, ℕ, ◌+◌, ◌/◌, ◌%◌, ◌≤◌, [], ◌++◌, eqb, length, refl, arith}
+use Rattle.std.proofs.Common.{◌≡◌, ℕ, ◌+◌, ◌/◌, ◌%◌, ◌≤◌, [], length, arith}
 use Rattle.std.proofs.lemmas.Grind.{common_steps}
 use borrow.Author.Tests.{eq-eqb, ne_eqb}
-use Rattle.std.proofs.lemmas.Bool.{cases_eq}
 use Rattle.text.proofs.Alignment.{length-column}
 use Rattle.page.specs.Page.{line_with, line_of, heading_with, heading, heading_behind, page_lines, line_length, bytes_for}
 

@@ -49,7 +49,7 @@ impl<const N: usize> Text<N> {
         ensures value { result ≡ length self.now }
         ensures fits { result ≤ N }
     {
-        self.len
+        self.as_bytes().len()
     }
 
     pub fn as_bytes(&self) -> &[u8]

@@ -1,4 +1,4 @@
-use Rattle.std.proofs.Common.{◌≡◌, ◌≤◌, ◌++◌, length, ap, sym, ◌∙◌, arith}
+use Rattle.std.proofs.Common.{◌≡◌, ◌++◌, length, ap, sym, ◌∙◌, arith}
 use Rattle.basis.specs.Numbers.{written}
 use Rattle.quantities.specs.Limits.{consumers}
 use Rattle.page.specs.Page.{heading_behind}
