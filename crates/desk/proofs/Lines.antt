@@ -2,23 +2,23 @@
 use mathlib.Core.Path.{◌≡◌, refl, sym, ap, ◌∙◌}
 use mathlib.Core.Bool.{Bool, true, false}
 use mathlib.Core.List.{List, [], ◌++◌}
-use Prim.Native.Nat.{ℕ, suc, ◌-◌, ◌≤◌, ◌<◌}
+use Prim.Native.Nat.{ℕ, suc, ◌-◌, ◌<◌}
 use native.Mathlib.Omega.{arith}
 use borrow.Author.Tests.{eq-eqb, ne_eqb}
-use lib.ListN.{length}
+use Rattle.std.specs.Prelude.{Option, None, Some, Result, Ok, Err}
+use Rattle.std.specs.Result.{result_unwrap_or}
 use Rattle.basis.specs.Choice.{pick}
+use Rattle.quantities.specs.declared.refusals.Refusal.{Refusal}
+use Rattle.quantities.specs.Refusals.{met}
 use Rattle.table.specs.declared.calls.Call.{Call}
 use Rattle.record.specs.declared.reading.Read.{Read}
 use Rattle.record.specs.declared.reading.Read.TheVariants.{End, Cut, Unknown, Record}
 use Rattle.record.specs.Reading.{read_at, stop_number, part_of}
 use Rattle.state.specs.declared.kept.Book.{Book}
-use Rattle.state.specs.State.{Reply}
+use Rattle.state.specs.State.{Reply, replied}
 use Rattle.book.specs.Step.{step_of}
-use Rattle.text.specs.Text.{Puts}
-use Rattle.text.proofs.Putting.{puts_none, puts_within, puts_as}
-use Rattle.text.proofs.Pieces.{puts_fits}
 use Rattle.desk.specs.declared.replies.Rest.{Rest}
-use Rattle.desk.specs.Replies.{reply_line, end_line, line_at, book_behind, place_behind, is_last, lines_from, rest_of, next_line, reply_most, Tells}
+use Rattle.desk.specs.Replies.{reply_line, end_line, line_at, book_behind, place_behind, is_last, lines_from, rest_of, next_line, Tells}
 
 -- no record stands there: the line tells the stop, and is the last
 pub record Ending (s : List ℕ) (b : Book) (at stop : ℕ) : Type 0 where
@@ -56,14 +56,14 @@ module _ (s : List ℕ) (b : Book) (at : ℕ) {c : Call} {from next : ℕ} (e : 
   more_record = rw (e, is_last)
 
 -- nothing is left
-pub tells_nothing : (s : List ℕ) (rest : Rest) (old : List ℕ) → rest.left ≡ 0 → Tells s rest old (record { size = 0; rest = rest }) old
-unfolding next_line
-tells_nothing s rest old z =
+pub tells_nothing : (s : List ℕ) (rest : Rest) → rest.left ≡ 0 → Tells s rest None rest
+unfolding next_line lines_from
+tells_nothing s rest z =
     record {
-      line = rw (eq-eqb rest.left 0 z) (puts_within (omega arith) (puts_none old 0));
-      whole = rw (eq-eqb rest.left 0 z);
-      fewer = λ h. absurd (omega arith);
-      fits = omega arith;
+      line = rw (eq-eqb rest.left 0 z) refl;
+      whole = rw (eq-eqb rest.left 0 z) refl;
+      none = λ h. refl;
+      fewer = λ h. absurd (omega (arith, z, h));
     }
 
 -- what is behind a line, by whether it is the last
@@ -71,45 +71,55 @@ abbrev behind : List ℕ → Rest → Bool → List ℕ
 behind s rest last =
     pick last [] (lines_from (rest.left - 1) s (book_behind s rest.book rest.place) (place_behind s rest.place))
 
-told : (s : List ℕ) (rest : Rest) → (rest.left ≡ 0 → ⊥) → rest_of s rest ≡ next_line s rest ++ behind s rest (is_last s rest.place)
+whole : (s : List ℕ) (rest : Rest) → (rest.left ≡ 0 → ⊥) → rest_of s rest ≡ next_line s rest ++ behind s rest (is_last s rest.place)
 unfolding next_line lines_from
-told s rest some =
+whole s rest some =
     let k : rest.left ≡ suc (rest.left - 1) = omega arith in
     ap (λ n. lines_from n s rest.book rest.place) k
     ∙ sym (ap (λ (t : Bool). pick t [] (line_at s rest.book rest.place) ++ behind s rest (is_last s rest.place)) (ne_eqb rest.left 0 some))
 
-next : (s : List ℕ) (rest : Rest) {size : ℕ} {old new : List ℕ} → (rest.left ≡ 0 → ⊥) → Puts reply_most (line_at s rest.book rest.place) old 0 size new → Puts reply_most (next_line s rest) old 0 size new
+next : (s : List ℕ) (rest : Rest) → (rest.left ≡ 0 → ⊥) → next_line s rest ≡ line_at s rest.book rest.place
 unfolding next_line
-next s rest some p = rw (ne_eqb rest.left 0 some) p
+next s rest some = rw (ne_eqb rest.left 0 some) refl
 
--- a line is put
-tells_line : (s : List ℕ) (rest more : Rest) {size : ℕ} {old new : List ℕ} → reply_most ≤ length old → (rest.left ≡ 0 → ⊥) → Puts reply_most (line_at s rest.book rest.place) old 0 size new → behind s rest (is_last s rest.place) ≡ rest_of s more → more.left < rest.left → Tells s rest old (record { size = size; rest = more }) new
-tells_line s rest more room some p e l =
+-- a line is told
+tells_line : (s : List ℕ) (rest more : Rest) {line : List ℕ} → (rest.left ≡ 0 → ⊥) → line ≡ line_at s rest.book rest.place → behind s rest (is_last s rest.place) ≡ rest_of s more → more.left < rest.left → Tells s rest (Some line) more
+tells_line s rest more some told e l =
     record {
-      line = next s rest some p;
-      whole = told s rest some ∙ ap (λ (t : List ℕ). next_line s rest ++ t) e;
+      line = told ∙ sym (next s rest some);
+      whole = whole s rest some ∙ ap (λ (t : List ℕ). next_line s rest ++ t) e;
+      none = λ z. absurd (some z);
       fewer = λ h. l;
-      fits = puts_fits room p;
     }
 
 -- the last line
-pub tells_ending : (s : List ℕ) (rest : Rest) {stop size : ℕ} {old new : List ℕ} → reply_most ≤ length old → (rest.left ≡ 0 → ⊥) → Ending s rest.book rest.place stop → Puts reply_most (end_line rest.place stop) old 0 size new → Tells s rest old (record { size = size; rest = record { left = 0; place = rest.place; book = rest.book } }) new
+pub tells_ending : (s : List ℕ) (rest : Rest) {stop : ℕ} {line : List ℕ} → (rest.left ≡ 0 → ⊥) → Ending s rest.book rest.place stop → line ≡ end_line rest.place stop → Tells s rest (Some line) (record { left = 0; place = rest.place; book = rest.book })
 unfolding lines_from
-tells_ending s rest room some h p =
-    tells_line s rest (record { left = 0; place = rest.place; book = rest.book }) room some (puts_as (sym h.line) p) (ap (behind s rest) h.last) (omega arith)
+tells_ending s rest some h told =
+    tells_line s rest (record { left = 0; place = rest.place; book = rest.book }) some (told ∙ sym h.line) (ap (behind s rest) h.last) (omega arith)
+
+-- the book after an answer
+book_after : (b : Book) (answer : Result Book Refusal) → result_unwrap_or answer b ≡ (replied b answer).book
+book_after b (Ok new) = refl
+book_after b (Err refusal) = refl
+
+number_of : (b : Book) (answer : Result Book Refusal) → met answer ≡ (replied b answer).number
+number_of b (Ok new) = refl
+number_of b (Err refusal) = refl
 
 -- the line of a record
-pub tells_record : (s : List ℕ) (rest : Rest) {c : Call} {from next size : ℕ} {part old new : List ℕ} {reply : Reply} → reply_most ≤ length old → (rest.left ≡ 0 → ⊥) → read_at s rest.place ≡ Record c from next → part ≡ part_of s from next → reply ≡ step_of rest.book c part → Puts reply_most (reply_line rest.place c part reply.number) old 0 size new → Tells s rest old (record { size = size; rest = record { left = rest.left - 1; place = next; book = reply.book } }) new
-tells_record s rest {c} {next = place} {part = part} {reply = reply} room some e k r p =
+pub tells_record : (s : List ℕ) (rest : Rest) {c : Call} {from next : ℕ} {part line : List ℕ} {new : Book} (answer : Result Book Refusal) → (rest.left ≡ 0 → ⊥) → read_at s rest.place ≡ Record c from next → part ≡ part_of s from next → replied rest.book answer ≡ step_of rest.book c part → line ≡ reply_line rest.place c part (met answer) → new ≡ result_unwrap_or answer rest.book → Tells s rest (Some line) (record { left = rest.left - 1; place = next; book = new })
+tells_record s rest {c} {from} {next} {part} {new = new} answer some e k r told kept =
     let b = rest.book in
     let at = rest.place in
-    tells_line s rest (record { left = rest.left - 1; place = place; book = reply.book }) room some
-    (puts_as
-    (ap (λ (x : Reply). reply_line at c part x.number) r
-    ∙ ap (λ (l : List ℕ). reply_line at c l (step_of b c l).number) k
+    let reply = ap (λ (l : List ℕ). step_of b c l) k in
+    let answered = r ∙ reply in
+    tells_line s rest (record { left = rest.left - 1; place = next; book = new }) some
+    (told
+    ∙ ap (reply_line at c part) (number_of b answer ∙ ap (λ (x : Reply). x.number) answered)
+    ∙ ap (λ (l : List ℕ). reply_line at c l (step_of b c (part_of s from next)).number) k
     ∙ sym (line-record s b at e))
-    p)
     (ap (behind s rest) (more_record s b at e)
-    ∙ ap (λ (x : Book). lines_from (rest.left - 1) s x (place_behind s at)) (book_record s b at e ∙ sym (ap (λ (x : Reply). x.book) r ∙ ap (λ (l : List ℕ). (step_of b c l).book) k))
-    ∙ ap (λ n. lines_from (rest.left - 1) s reply.book n) (place_record s b at e))
+    ∙ ap (λ (x : Book). lines_from (rest.left - 1) s x (place_behind s at)) (book_record s b at e ∙ sym (kept ∙ book_after b answer ∙ ap (λ (x : Reply). x.book) answered))
+    ∙ ap (λ n. lines_from (rest.left - 1) s new n) (place_record s b at e))
     (omega arith)
