@@ -8,4 +8,3 @@ pub mod Earliest
 pub mod Stops
 pub mod Ready
 pub mod Underway
-pub mod Arms

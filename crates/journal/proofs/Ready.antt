@@ -1,4 +1,4 @@
--- What the run keeps beside its book, from the fix on: the figures from which a close's number is found.
+-- What a run keeps beside its book, from the fix on, stays right with each call.
 use mathlib.Core.Path.{◌≡◌, refl, sym, ap, ◌∙◌}
 use mathlib.Core.Bool.{Bool, true, false}
 use mathlib.Core.List.{List, [], ◌∷◌, map}
@@ -10,7 +10,10 @@ use lib.ListN.{length, get_or, set, length-set}
 use Rattle.basis.specs.Choice.{pick}
 use Rattle.basis.specs.Sums.{sum}
 use Rattle.basis.proofs.Choice.{handed_on}
+use Rattle.quantities.specs.declared.refusals.Refusal.{Refusal}
 use Rattle.quantities.specs.Limits.{consumers}
+use Rattle.quantities.specs.Refusals.{refusal_number, Refused, Stored}
+use Rattle.quantities.proofs.RefusalLaws.{refusing}
 use Rattle.table.specs.Ranges.{call_number}
 use Rattle.table.specs.declared.calls.Call.TheVariants as call
 use Rattle.table.specs.declared.consumers.ConsumerCall.{ConsumerCall}
@@ -18,23 +21,49 @@ use Rattle.power.specs.declared.component.Hours.{Hours}
 use Rattle.state.specs.declared.kept.Stage.{Stage}
 use Rattle.state.specs.declared.kept.Consumer.{Consumer}
 use Rattle.state.specs.declared.kept.Book.{Book}
-use Rattle.state.specs.State.{Reply}
-use Rattle.state.specs.State.{fresh_consumer, stage_number, with_consumers}
+use Rattle.state.specs.Places.{place_of}
+use Rattle.state.specs.State.{Reply, reply_with, reply_of, fresh_consumer, stage_number, with_consumers}
 use Rattle.fix.specs.Fix.{declared_by, weights_of}
 use Rattle.close.specs.Close.{real_demand, reals_of, close_number_from, close_number_by, close_number, closed, close_of}
 use Rattle.close.proofs.CloseLaws.{number_from}
-use Rattle.journal.specs.Ledger.{Ready}
 use Rattle.book.specs.Year.{year_number, begun, year_of}
-use Rattle.decision.specs.Consumers.{consumer_rest, consumer_after, consumer_number, consumer_answer_of}
+use Rattle.decision.specs.Consumers.{consumer_rest, consumer_after, consumer_number, consumer_answer_of, consumer_of}
 use Rattle.decision.proofs.Acts.{declaration_kept}
-use Rattle.quantities.specs.Refusals.{Refused, Stored, decided_by}
+use Rattle.decision.proofs.Settled.{settled_consumer, consumer_settled}
+use Rattle.journal.specs.Ledger.{Ready}
 
 -- in another stage nothing is asked
 pub not_firm : {b : Book} {total : ℕ} {reals : List ℕ} → length reals ≡ consumers → (stage_number b.stage ≡ 2 → ⊥) → Ready b total reals
 not_firm n h = record { count = n; total_right = λ e. absurd (h e); reals_right = λ e. absurd (h e) }
 
+module _ (n : ℕ) (b new : Book) {after : Book} where
+  -- the book of a reply that accepts is the new one
+  pub accepted_book : reply_with 0 after ≡ reply_of n b new → after ≡ new
+  accepted_book e =
+      let z : 0 ≡ n = ap (λ (r : Reply). r.number) e in
+      ap (λ (r : Reply). r.book) e ∙ ap (λ m. pick (eqb m 0) new b) (sym z)
+
+  -- .. and of one that refuses, the old one
+  pub refused_book : (refusal : Refusal) → reply_with (refusal_number refusal) after ≡ reply_of n b new → after ≡ b
+  refused_book refusal e =
+      let z : refusal_number refusal ≡ n = ap (λ (r : Reply). r.number) e in
+      ap (λ (r : Reply). r.book) e ∙ ap (λ m. pick (eqb m 0) new b) (sym z) ∙ ap (λ t. pick t new b) (refusing refusal)
+
+  -- a call that leaves stage and consumers leaves the figures right
+  pub ready_aside : {number total : ℕ} {reals : List ℕ} → new.stage ≡ b.stage → new.consumers ≡ b.consumers → reply_with number after ≡ reply_of n b new → Ready b total reals → Ready after total reals
+  ready_aside {number} {total} {reals} s k e r = rw (ap (λ (q : Reply). q.book) e) (go (eqb n 0))
+    where
+      go : (t : Bool) → Ready (pick t new b) total reals
+      go true =
+          record {
+            count = r.count;
+            total_right = λ f. rw k (r.total_right (sym (ap stage_number s) ∙ f));
+            reals_right = λ f. rw k (r.reals_right (sym (ap stage_number s) ∙ f));
+          }
+      go false = r
+
 -- a list of what consumers have, one of them replaced
-map_replaced : {A : Type 0} (f : Consumer → A) (xs : List Consumer) (i : ℕ) (x : Consumer) → map f (set xs i x) ≡ set (map f xs) i (f x)
+map_replaced : {A : Type 0} (f : Consumer → A) (xs : List Consumer) (i : ℕ) (x : Consumer) → map f (set xs i x) ≡ set (map f xs) i (f (get_or (set xs i x) i fresh_consumer))
 map_replaced f [] i x = refl
 map_replaced f (y ∷ ys) zero x = refl
 map_replaced f (y ∷ ys) (suc i) x = ap (λ l. f y ∷ l) (map_replaced f ys i x)
@@ -45,43 +74,45 @@ map_kept f [] i x e = refl
 map_kept f (y ∷ ys) zero x e = ap (λ v. v ∷ map f ys) e
 map_kept f (y ∷ ys) (suc i) x e = ap (λ l. f y ∷ l) (map_kept f ys i x e)
 
--- an answer that stores
-stored : (n : ℕ) (x y : Consumer) → decided_by n x ≡ Stored y → (n ≡ 0) × (x ≡ y)
-stored n x y e = go (eqb n 0) refl e
-  where
-    go : (t : Bool) → eqb n 0 ≡ t → pick t (Stored x) (Refused n) ≡ Stored y → (n ≡ 0) × (x ≡ y)
-    go true q h = (eqb-true n 0 q, cc h)
-    go false q h = let z : ◌≡◌ {A = ℕ} 0 1 = cc in absurd (omega arith)
+-- what the book keeps of a consumer's accepted call, and that it was in range and refused by nothing
+module _ (b : Book) (consumer : ℕ) (act : ConsumerCall) (place : ℕ) {after : Book} (p : place ≡ place_of consumers consumer) (e : reply_with 0 after ≡ consumer_of b consumer act) where
+  abbrev old : Consumer
+  old = get_or b.consumers place fresh_consumer
 
--- a consumer stored at its place keeps the figures right
-pub ready_stored : (b : Book) (total : ℕ) (reals : List ℕ) (consumer : ℕ) (act : ConsumerCall) (place : ℕ) (after : Consumer) → Ready b total reals → consumer_answer_of consumer act b.stage (get_or b.consumers place fresh_consumer) ≡ Stored after → Ready (with_consumers b (set b.consumers place after)) total (set reals place (real_demand after))
-unfolding consumer_answer_of consumer_number weights_of reals_of
-ready_stored b total reals consumer act place after r e =
-    let x = get_or b.consumers place fresh_consumer in
-    let k = stored _ (consumer_after act x) after e in
-    let z = (handed_on (call_number (call.Consumer consumer act) []) (consumer_rest act b.stage x) k.0).1 in
-    record {
-      count = length-set reals place (real_demand after) ∙ r.count;
-      total_right =
-          λ s.
-          r.total_right s
-          ∙ sym (ap sum (map_kept (λ y. declared_by y.declaration) b.consumers place after (ap (λ (y : Consumer). declared_by y.declaration) (sym k.1) ∙ ap declared_by (declaration_kept act b.stage x s z))));
-      reals_right =
-          λ s. ap (λ l. set l place (real_demand after)) (r.reals_right s) ∙ sym (map_replaced real_demand b.consumers place after);
-    }
+  stored : (after ≡ with_consumers b (set b.consumers place (consumer_after act old))) × (consumer_number consumer act b.stage old ≡ 0)
+  unfolding consumer_answer_of
+  stored = go (eqb (consumer_number consumer act b.stage old) 0) refl (e ∙ sym (consumer_settled b consumer act place p))
+    where
+      go : (t : Bool) → eqb (consumer_number consumer act b.stage old) 0 ≡ t → reply_with 0 after ≡ settled_consumer b place (pick t (Stored (consumer_after act old)) (Refused (consumer_number consumer act b.stage old)))
+          → (after ≡ with_consumers b (set b.consumers place (consumer_after act old))) × (consumer_number consumer act b.stage old ≡ 0)
+      go true q h = (ap (λ (r : Reply). r.book) h, eqb-true _ 0 q)
+      go false q h = absurd (omega (arith, borrow.Author.Tests.eqb-false _ 0 q (sym (ap (λ (r : Reply). r.number) h))))
+
+  -- its real demand, put in the place of the earlier one, keeps the figures right
+  pub ready_stored : (total : ℕ) (reals : List ℕ) → Ready b total reals → Ready after total (set reals place (real_demand (get_or after.consumers place fresh_consumer)))
+  unfolding consumer_number weights_of reals_of
+  ready_stored total reals r =
+      let k = stored in
+      let z = (handed_on (call_number (call.Consumer consumer act) []) (consumer_rest act b.stage old) k.1).1 in
+      rw k.0
+      (record {
+        count = length-set reals place _ ∙ r.count;
+        total_right =
+            λ s.
+            r.total_right s
+            ∙ sym (ap sum (map_kept (λ y. declared_by y.declaration) b.consumers place (consumer_after act old) (ap declared_by (declaration_kept act b.stage old s z))));
+        reals_right =
+            λ s. ap (λ l. set l place (real_demand (get_or (set b.consumers place (consumer_after act old)) place fresh_consumer))) (r.reals_right s) ∙ sym (map_replaced real_demand b.consumers place (consumer_after act old));
+      })
 
 -- the year and the close lead to other stages
-pub ready_begun : (b : Book) (hours : Hours) (number total : ℕ) (reals : List ℕ) {r : Reply} → length reals ≡ consumers → number ≡ year_number b hours → number ≡ 0 → r ≡ year_of b hours → Ready r.book total reals
+pub ready_begun : (b : Book) (hours : Hours) {after : Book} {total : ℕ} {reals : List ℕ} → reply_with 0 after ≡ year_of b hours → length reals ≡ consumers → Ready after total reals
 unfolding year_of begun
-ready_begun b hours number total reals {r} n e z f =
-    let w : stage_number r.book.stage ≡ 1 = ap (λ (q : Reply). stage_number q.book.stage) f ∙ ap (λ m. stage_number (pick (eqb m 0) (begun b hours) b).stage) (sym e ∙ z) in
-    not_firm n (λ s. omega (arith, w, s))
+ready_begun b hours {after} e n = not_firm n (λ s. omega (arith, ap (λ (x : Book). stage_number x.stage) (accepted_book (year_number b hours) b (begun b hours) e), s))
 
-pub ready_closed : (b : Book) (p : ℕ) (number total : ℕ) (reals : List ℕ) {r : Reply} → length reals ≡ consumers → number ≡ close_number b p → number ≡ 0 → r ≡ close_of b p → Ready r.book total reals
+pub ready_closed : (b : Book) (p : ℕ) {after : Book} {total : ℕ} {reals : List ℕ} → reply_with 0 after ≡ close_of b p → length reals ≡ consumers → Ready after total reals
 unfolding close_of closed
-ready_closed b p number total reals {r} n e z f =
-    let w : stage_number r.book.stage ≡ 3 = ap (λ (q : Reply). stage_number q.book.stage) f ∙ ap (λ m. stage_number (pick (eqb m 0) (closed b p) b).stage) (sym e ∙ z) in
-    not_firm n (λ s. omega (arith, w, s))
+ready_closed b p {after} e n = not_firm n (λ s. omega (arith, ap (λ (x : Book). stage_number x.stage) (accepted_book (close_number b p) b (closed b p) e), s))
 
 -- in another stage a close's number does not depend on them
 other_stage : (stage : Stage) (dmp total : ℕ) (reals : List ℕ) (xs : List Consumer) (p : ℕ) → eqb (stage_number stage) 2 ≡ false → close_number_from stage dmp total reals p ≡ close_number_by stage dmp xs p
@@ -89,8 +120,8 @@ unfolding close_number_from close_number_by
 other_stage stage dmp total reals xs p q = rw q
 
 -- the number of a close that is found from them
-pub close_found : (b : Book) (total : ℕ) (reals : List ℕ) (p : ℕ) {number : ℕ} → Ready b total reals → number ≡ close_number_from b.stage b.dmp total reals p → number ≡ close_number b p
-close_found b total reals p r e = e ∙ same (eqb (stage_number b.stage) 2) refl
+pub close_found : (b : Book) (total : ℕ) (reals : List ℕ) (p : ℕ) → Ready b total reals → close_number_from b.stage b.dmp total reals p ≡ close_number b p
+close_found b total reals p r = same (eqb (stage_number b.stage) 2) refl
   where
     same : (t : Bool) → eqb (stage_number b.stage) 2 ≡ t → close_number_from b.stage b.dmp total reals p ≡ close_number b p
     same true q =

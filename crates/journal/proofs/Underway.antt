@@ -12,8 +12,7 @@ use Rattle.record.specs.declared.reading.Read.{Read}
 use Rattle.record.specs.declared.reading.Read.TheVariants.{End, Cut, Unknown, Record}
 use Rattle.record.specs.Reading.{read_at, stop_number, part_of}
 use Rattle.state.specs.declared.kept.Book.{Book}
-use Rattle.state.specs.State.{Reply}
-use Rattle.state.specs.State.{fresh_book}
+use Rattle.state.specs.State.{Reply, reply_with, fresh_book}
 use Rattle.book.specs.Step.{step_of}
 use Rattle.journal.specs.declared.outcome.Run.{Run}
 use Rattle.journal.specs.declared.outcome.Tally.{Tally}
@@ -66,10 +65,10 @@ module _ {s : List ℕ} {t : Tally} {b : Book} (u : Underway s (run_with t b 0))
       (omega arith, omega arith, omega arith)
 
   module _ {t' : Tally} (number : ℕ) (k : t' ≡ tallied t number next) where
-    pub turn_to : {b' : Book} → step_of b c (part_of s from next) ≡ record { number = number; book = b' } → Underway s (run_with t' b' 0)
+    pub turn_to : {b' : Book} → reply_with number b' ≡ step_of b c (part_of s from next) → Underway s (run_with t' b' 0)
     turn_to {b'} h =
         let w : turned s (run_with t b 0) c from next ≡ run_with t' b' 0 =
-        ap (λ (q : Reply). answered (run_with t b 0) q next) h ∙ ap (λ (x : Tally). run_with x b' 0) (sym k) in
+        ap (λ (q : Reply). answered (run_with t b 0) q next) (sym h) ∙ ap (λ (x : Tally). run_with x b' 0) (sym k) in
         rw w at (goes_on u e)
 
     pub turn_less : length s - t'.place < length s - t.place

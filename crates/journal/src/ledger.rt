@@ -40,6 +40,7 @@ impl Ledger {
     }
 
     // Any call, with the readings lent to a test.
+    #[tactic(auto, unfolding(book::specs::Step::step_of))]
     pub(crate) fn take(&mut self, call: Call, readings: &[u8]) -> Result<(), Refusal>
         ensures { reply_with (met result) self.new.book ≡ step_of self.old.book call readings.now }
     {
@@ -57,6 +58,7 @@ impl Ledger {
         }
     }
 
+    #[tactic(auto, using(state::proofs::Replies::refused_reply), unfolding(book::specs::Year::year_of))]
     fn take_year(&mut self, hours: Hours) -> Result<(), Refusal>
         ensures { reply_with (met result) self.new.book ≡ year_of self.old.book hours }
     {
@@ -65,6 +67,7 @@ impl Ledger {
         Ok(())
     }
 
+    #[tactic(auto, using(state::proofs::Replies::refused_reply), unfolding(fix::specs::Fix::fix_of))]
     fn take_fix(&mut self, dmp: u32) -> Result<(), Refusal>
         ensures { reply_with (met result) self.new.book ≡ fix_of self.old.book dmp }
     {
