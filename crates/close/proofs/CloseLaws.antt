@@ -62,8 +62,8 @@ each_within dmp total xs e h k =
     let x = get_or xs k fresh_consumer in
     let dfa : real_demand x * dmp / total ≡ get_or (adjusted_in dmp xs) k 0 =
     by_real dmp total x.declaration x.reading
-        ∙ ap (λ t. adjusted_of dmp t x) e
-        ∙ sym (get_or-map (adjusted_of dmp (sum (weights_of xs))) xs k fresh_consumer) in
+    ∙ ap (λ t. adjusted_of dmp t x) e
+    ∙ sym (get_or-map (adjusted_of dmp (sum (weights_of xs))) xs k fresh_consumer) in
     omega (arith, dfa, all_at_most_lem greatest_power (adjusted_in dmp xs) h k)
 
 from_reals : (dmp total : ℕ) (xs : List Consumer) → map (λ real. real * dmp / total) (map real_demand xs) ≡ map (λ x. real_demand x * dmp / total) xs

@@ -43,16 +43,11 @@ fn adjusted_by(dmp: u32, total: u64, real: u32) -> u64
     product.checked_div(total).unwrap_or(0)
 }
 
-// The greatest DFA, kW.
-const GREATEST_DEMAND: u64 = GREATEST_POWER as u64;
-
 // Whether no DFA is above the greatest; the first that is decides.
 pub(crate) fn is_within(dmp: u32, total: u64, reals: &[u32]) -> bool
     ensures { result ≡ all_at_most greatest_power (map (λ real. real * dmp / total) reals.now) }
 {
-    reals
-        .iter()
-        .all(|real| adjusted_by(dmp, total, *real) <= GREATEST_DEMAND)
+    reals.iter().all(|real| adjusted_by(dmp, total, *real) <= u64::from(GREATEST_POWER))
 }
 
 // DFA of each consumer, once none is above the greatest.

@@ -34,7 +34,8 @@ fn figures(p: u32, dmp: u32, consumers: &[Consumer; CONSUMERS]) -> CloseFigures
     }
 }
 
-// What a close meets, from ΣD and the real demand of each consumer: 3, 4, 14, or nothing. Nothing is changed.
+// What a close meets, from ΣD and the real demand of each consumer: 3, 4, 14, or nothing. Nothing is changed. DMP and ΣD come as two
+// figures: DMP stands in the book, and a run keeps ΣD beside it.
 #[tactic(auto, unfolding(crate::specs::Close::close_number_from))]
 pub fn check_close(stage: Stage, dmp: u32, total: u64, reals: &[u32], p: u32) -> Result<(), Refusal>
     ensures { met result ≡ close_number_from stage dmp total reals.now p }

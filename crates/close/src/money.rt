@@ -8,7 +8,7 @@ ghost use Rattle.close.specs.Close.{surplus_by, charge_by, credits_of, undistrib
 
 use fix::among_consumers;
 use quantities::CONSUMERS;
-use state::{Consumer, Declaration};
+use state::{Consumer, Declaration, Figures};
 use std::array;
 
 // ADF of a consumer where it is positive, else 0.
@@ -32,12 +32,12 @@ pub(crate) fn surpluses(
 
 // The charge of a consumer in cents: for ADF below 0 of who declared less than 98 % of the projection.
 fn charge(p: u32, dfa: u32, declaration: Declaration) -> u64
-    requires { (p ≤ greatest_price) × (dfa ≤ greatest_power) }
+    requires { dfa ≤ greatest_power }
     ensures { result ≡ charge_by p dfa declaration }
 {
     match declaration {
-        Declaration::Declared(figures) if 100 * u64::from(figures.d) < 98 * u64::from(figures.a) => {
-            u64::from(dfa.saturating_sub(figures.df)) * u64::from(p) * 12
+        Declaration::Declared(Figures { d, a, df }) if 100 * u64::from(d) < 98 * u64::from(a) => {
+            u64::from(dfa.saturating_sub(df)) * u64::from(p) * 12
         }
         _ => 0,
     }

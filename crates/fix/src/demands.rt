@@ -26,7 +26,10 @@ pub fn weights(consumers: &[Consumer; CONSUMERS]) -> [u64; CONSUMERS]
 }
 
 // The division of DMP by D.
-pub(crate) fn demands(dmp: u32, consumers: &[Consumer; CONSUMERS]) -> Result<[u32; CONSUMERS], Refusal>
+pub(crate) fn demands(
+    dmp: u32,
+    consumers: &[Consumer; CONSUMERS],
+) -> Result<[u32; CONSUMERS], Refusal>
     ensures number { met result ≡ fix_rest dmp consumers.now }
     ensures shared { IfOk result (λ demands. demands ≡ shares dmp (weights_of consumers.now)) }
 {

@@ -19,8 +19,7 @@ const GREATEST_LIMIT: u64 = UNITS as u64 * GREATEST_POWER as u64;
 fn offer(hours: Hours, unit: &Unit) -> u32
     ensures { result ≡ offer_by hours unit.now unit.now.enrolment }
 {
-    unit.enrolment
-        .map_or(0, |entry| firm_offer(entry.plant, hours, unit.components).0)
+    unit.enrolment.map_or(0, |entry| firm_offer(entry.plant, hours, unit.components).0)
 }
 
 // The firm offer of each unit.

@@ -14,7 +14,7 @@ use plant::{Component, Components, Minutes, Trial};
 use quantities::Refusal;
 use state::{Stage, Unit, check_stage};
 
-// The kind that has storage, and all three components.
+// The kind that has storage, and all three components. Kinds and components are the numbers of their fields.
 const WITH_STORAGE: u32 = 8;
 
 // Kind 8 is tested in all three components, others in component 0.

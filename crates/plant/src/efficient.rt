@@ -6,8 +6,9 @@ ghost use Rattle.plant.specs.Efficient.{counted, efficient_offer, year_sum, chos
 use quantities::{FIRST_YEAR, FORCED_GENERATION, SECOND_YEAR, UNITS, is_flagged};
 use std::array;
 
-// The simulated year that was chosen, 1 or 2, and each unit's efficient offer in kW.
-#[derive(Clone, Copy)]
+// The simulated year that was chosen, 1 or 2, and each unit's efficient offer in kW. A year is a number, since it is the number of its flag;
+// the offers are an array of figures, as the book keeps them.
+#[derive(Clone, Copy, Debug, PartialEq, Eq)]
 pub struct Efficient {
     pub year: u32,
     pub offers: [u32; UNITS],

@@ -7,7 +7,7 @@ use power::{Component, Components, Hours, Kw, Kwh, least, maximum_power, over_ho
 
 // A plant: its kind, whether it holds a supply report, guaranteed power, firm energies and storable energy. The kind is a number: firm_offer
 // takes any, and offers 0 where it is none of the eight.
-#[derive(Clone, Copy)]
+#[derive(Clone, Copy, Debug, PartialEq, Eq)]
 pub struct Plant {
     pub kind: u32,
     pub report: bool,
@@ -104,13 +104,12 @@ fn with_storage(plant: Plant, hours: u32, components: Components) -> Kw
 pub fn firm_offer(plant: Plant, hours: Hours, components: Components) -> Kw
     ensures { result ≡ firm_offer plant hours components.set components.generator components.storage }
 {
-    let set = components.set;
     match plant.kind {
-        1 => thermal(plant, set),
-        2 => renewable(plant, set),
-        3 | 7 => limited(plant, hours.nhrm, set),
-        4 | 6 => limited(plant, hours.ndhmd, set),
-        5 => regulated(plant, hours.nhmd, set),
+        1 => thermal(plant, components.set),
+        2 => renewable(plant, components.set),
+        3 | 7 => limited(plant, hours.nhrm, components.set),
+        4 | 6 => limited(plant, hours.ndhmd, components.set),
+        5 => regulated(plant, hours.nhmd, components.set),
         8 => with_storage(plant, hours.ndhmd, components),
         _ => Kw(0),
     }

@@ -3,7 +3,7 @@ use plant::{Component, Components, Hours, Kw, Kwh, Minutes, Plant, Trial};
 use std::io;
 
 // A component of the unit, by its number.
-#[derive(Clone, Copy, PartialEq, Eq)]
+#[derive(Clone, Copy, Debug, PartialEq, Eq)]
 pub enum Part {
     Set,
     Generator,
@@ -34,7 +34,7 @@ impl Part {
 }
 
 // What a line asks for.
-#[derive(Clone, Copy)]
+#[derive(Clone, Copy, Debug, PartialEq, Eq)]
 pub enum Line<'a> {
     // a new unit with its PIC, if given, without an answer
     Unit {

@@ -20,7 +20,7 @@ use std::array;
 use std::io::{self, BufWriter, ErrorKind, Write};
 
 // The unit that the lines are about.
-#[derive(Clone, Copy)]
+#[derive(Clone, Copy, Debug, PartialEq, Eq)]
 struct Unit {
     components: Components,
     cap: Option<Kw>,
@@ -69,9 +69,8 @@ fn answer<W: Write>(out: &mut W, alloc: Global, unit: &mut Unit, line: Line) -> 
                 .flat_map(|reading| reading.to_le_bytes())
                 .collect::<Vec<u8>>(alloc)?;
             let lent = bytes.get(..length as usize).ok_or(ErrorKind::InvalidData)?;
-            let cap = unit.cap;
             let component = part.of(&mut unit.components);
-            let tested = test(*component, cap, trial, lent);
+            let tested = test(*component, unit.cap, trial, lent);
             *component = tested.unwrap_or(*component);
             show_tested(out, tested, *component)
         }

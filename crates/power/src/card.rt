@@ -5,6 +5,7 @@ ghost use Rattle.quantities.specs.Limits.{least_time, greatest_time};
 ghost use Rattle.power.specs.Power.{reaches};
 ghost use Rattle.power.specs.Card.{is_least, least_count, CardDecides};
 
+use crate::component::Trial;
 use quantities::{GREATEST_TIME, LEAST_TIME};
 
 // The counts, from TC 4 to TC 96.
@@ -111,7 +112,7 @@ fn card() -> [u32; 93]
     CARD
 }
 
-// The card's count for TC, 0 for a TC that it does not have.
+// The card's count for TC, 0 for a TC that it does not have, as the function for C answers (plant_c): 0 is no count of readings.
 #[tactic(auto, using(basis::proofs::Entries::every_at))]
 pub fn least_count(tc: u32) -> u32
     ensures { result ≡ least_count tc }
@@ -122,12 +123,12 @@ pub fn least_count(tc: u32) -> u32
     card()[(tc - LEAST_TIME) as usize]
 }
 
-// The count reaches 80 % of TC.
-pub(crate) fn reached(count: u32, tc: u32) -> bool
-    requires { (least_time ≤ tc) × (tc ≤ greatest_time) }
-    ensures { result ≡ reaches count tc }
+// The count of a test reaches 80 % of its TC.
+pub(crate) fn reached(trial: Trial) -> bool
+    requires { (least_time ≤ trial.tc) × (trial.tc ≤ greatest_time) }
+    ensures { result ≡ reaches trial.count trial.tc }
 {
-    least_count(tc) <= count
+    least_count(trial.tc) <= trial.count
 }
 
 // A count reaches 80 % of a full time exactly from the card's count on.

@@ -5,7 +5,7 @@ ghost use Rattle.power.specs.Power.{fresh};
 use crate::quantity::Kw;
 
 // The minutes of an availability: available, planned maintenance, forced outage, equivalent degradation.
-#[derive(Clone, Copy)]
+#[derive(Clone, Copy, Debug, PartialEq, Eq)]
 pub struct Minutes {
     pub hd: u32,
     pub hmp: u32,
@@ -15,7 +15,7 @@ pub struct Minutes {
 
 // How a test went: its ending (0 complete, 1 tripped by no doing of the plant, 2 tripped by its doing), its full time TC in quarters, and the
 // count of its readings. The ending is a number: test takes any, and refuses those above 2.
-#[derive(Clone, Copy)]
+#[derive(Clone, Copy, Debug, PartialEq, Eq)]
 pub struct Trial {
     pub ending: u32,
     pub tc: u32,
@@ -23,7 +23,7 @@ pub struct Trial {
 }
 
 // The hours of the stage of greatest thermal requirement, its hours of maximum demand, and those per day.
-#[derive(Clone, Copy)]
+#[derive(Clone, Copy, Debug, PartialEq, Eq)]
 pub struct Hours {
     pub nhrm: u32,
     pub nhmd: u32,
@@ -31,7 +31,7 @@ pub struct Hours {
 }
 
 // A component: its result, if a test gave one, whether its last ending-2 test was void with no result since, its availability, if given.
-#[derive(Clone, Copy)]
+#[derive(Clone, Copy, Debug, PartialEq, Eq)]
 pub struct Component {
     pub result: Option<Kw>,
     pub void_trip: bool,
@@ -39,7 +39,7 @@ pub struct Component {
 }
 
 // The three components of a plant, numbered 0 to 2: all kinds have the set, kind 8 a generator and a storage too.
-#[derive(Clone, Copy)]
+#[derive(Clone, Copy, Debug, PartialEq, Eq)]
 pub struct Components {
     pub set: Component,
     pub generator: Component,

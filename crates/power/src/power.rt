@@ -57,7 +57,7 @@ fn measured_of(trip: bool, trial: Trial, energy: Kwh) -> Option<Kw>
     requires { (least_time ≤ trial.tc) × (trial.tc ≤ greatest_time) }
     ensures { result ≡ measured_of trip trial.ending trial.tc trial.count energy }
 {
-    let reached = reached(trial.count, trial.tc);
+    let reached = reached(trial);
     match trial.ending {
         0 => Some(over_quarters(energy, trial.tc)),
         1 => reached.then(|| over_quarters(energy, trial.count)),

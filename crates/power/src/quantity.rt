@@ -3,11 +3,11 @@ ghost use Rattle.std.specs.Prelude.{◌≡◌, ◌≤◌};
 ghost use Rattle.power.specs.Quantity.{quarters_of_hour, least, over_quarters, over_hours};
 
 // A power in kilowatts.
-#[derive(Clone, Copy)]
+#[derive(Clone, Copy, Debug, PartialEq, Eq)]
 pub struct Kw(pub u32);
 
 // An energy in kilowatt-hours.
-#[derive(Clone, Copy)]
+#[derive(Clone, Copy, Debug, PartialEq, Eq)]
 pub struct Kwh(pub u32);
 
 // Quarters in an hour.

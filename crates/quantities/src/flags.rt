@@ -1,4 +1,4 @@
-// The flags of a unit.
+// The flags of a unit: a number, as its record has them, since an offer is told of any, and a year is asked by its flag.
 ghost use Rattle.std.specs.Prelude.{◌≡◌};
 ghost use Rattle.quantities.specs.Flags.{flagged};
 
@@ -23,8 +23,5 @@ pub const ALL_FLAGS: u32 = 31;
 pub fn is_flagged(flag: u32, flags: u32) -> bool
     ensures { result ≡ flagged flag flags }
 {
-    if flag == 0 {
-        return false;
-    }
-    flags / flag % 2 == 1
+    flag != 0 && flags / flag % 2 == 1
 }

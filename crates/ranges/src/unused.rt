@@ -1,6 +1,6 @@
 // The fields of a unit that its kind and flags do not use.
 ghost use Rattle.std.specs.Prelude.{◌≡◌};
-ghost use Rattle.table.specs.Ranges.{uses_of, unset_unless, zero_unless, unused_zero};
+ghost use Rattle.table.specs.Ranges.{uses_of, unused_zero};
 
 use quantities::{INJECTION_GIVEN, REPORT_HELD, is_flagged};
 use table::{Enrolling, Uses};
@@ -14,7 +14,7 @@ const NONE: Uses = Uses {
     cap: false,
 };
 
-// The flag of the supply report and the fields PPR, E1, E2 and CAP by kind.
+// The flag of the supply report and the fields PPR, E1, E2 and CAP by kind: a number, since any may be asked, and five kinds are one range.
 #[tactic(auto, unfolding(table::specs::Ranges::uses_of))]
 pub(crate) fn uses_of(kind: u32) -> Uses
     ensures { result ≡ uses_of kind }
@@ -40,30 +40,16 @@ pub(crate) fn uses_of(kind: u32) -> Uses
     }
 }
 
-// A flag that is not used does not stand.
-fn unset_unless(used: bool, stands: bool) -> bool
-    ensures { result ≡ unset_unless used stands }
-{
-    used || !stands
-}
-
-// A field that is not used is 0.
-fn zero_unless(used: bool, value: u32) -> bool
-    ensures { result ≡ zero_unless used value }
-{
-    used || value == 0
-}
-
 // The flags and fields of a unit that its kind and flags do not use are 0.
 #[tactic(auto, unfolding(table::specs::Ranges::unused_zero))]
 pub(crate) fn unused_zero(e: Enrolling) -> bool
     ensures { result ≡ unused_zero (uses_of e.kind) e }
 {
     let uses = uses_of(e.kind);
-    unset_unless(uses.report, is_flagged(REPORT_HELD, e.flags))
-        && zero_unless(is_flagged(INJECTION_GIVEN, e.flags), e.pic)
-        && zero_unless(uses.ppr, e.ppr)
-        && zero_unless(uses.e1, e.e1)
-        && zero_unless(uses.e2, e.e2)
-        && zero_unless(uses.cap, e.cap)
+    (uses.report || !is_flagged(REPORT_HELD, e.flags))
+        && (is_flagged(INJECTION_GIVEN, e.flags) || e.pic == 0)
+        && (uses.ppr || e.ppr == 0)
+        && (uses.e1 || e.e1 == 0)
+        && (uses.e2 || e.e2 == 0)
+        && (uses.cap || e.cap == 0)
 }

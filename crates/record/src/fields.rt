@@ -1,4 +1,5 @@
-// The fields of a record, written one after the other, and bytes behind them.
+// The fields of a record, written one after the other, and bytes behind them: each at a place of the caller's buffer, since the library has
+// no heap.
 ghost use Rattle.std.specs.Prelude.{◌≡◌, ◌+◌, ◌≤◌, length};
 ghost use Rattle.basis.specs.Numbers.{written};
 ghost use Rattle.basis.specs.Sums.{sum};
@@ -13,7 +14,7 @@ pub fn put_fields(out: &mut [u8], at: usize, widths: &[usize; FIELDS], values: &
 {
     let mut place = at;
     for (width, value) in widths.iter().zip(values) {
-        basis::put_number(out, place, *width, *value as u64);
+        basis::put_number(out, place, *width, u64::from(*value));
         place += *width;
     }
 }

@@ -6,7 +6,7 @@ use table::{Call, Mark, call_of, form_of, mark_at, readings_size};
 
 // What stands at a place: nothing, a record that is cut short, an unknown mark, or a whole record. An enum, since one match names the four
 // cases: a Result of an Option would take two.
-#[derive(Clone, Copy)]
+#[derive(Clone, Copy, Debug, PartialEq, Eq)]
 pub enum Read {
     End,
     Cut,
@@ -43,7 +43,6 @@ fn read_marked(journal: &[u8], at: usize, mark: Mark) -> Read
 }
 
 // What stands at a place of a journal; any journal and any place are taken.
-
 #[tactic(auto, using(crate::proofs::Reader::at_end, crate::proofs::Reader::at_one))]
 pub fn read_at(journal: &[u8], at: usize) -> Read
     ensures { result ≡ read_at journal.now at }
@@ -60,7 +59,7 @@ pub fn read_at(journal: &[u8], at: usize) -> Read
     }
 }
 
-// The number at which the reading stops there, 0 where it does not.
+// The number at which the reading stops there, 0 where it does not: a run tells a buyer and C this number.
 pub fn stop_number(read: Read) -> u32
     ensures { result ≡ stop_number read }
 {

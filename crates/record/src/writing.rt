@@ -25,7 +25,7 @@ fn put_record(call: Call, readings: &[u8], out: &mut [u8])
     ensures { out.new ≡ written out.old 0 (record_of call readings.now) }
 {
     let Fields { form, values } = fields_of(call);
-    basis::put_number(out, 0, 2, form.mark as u64);
+    basis::put_number(out, 0, 2, u64::from(form.mark));
     put_fields(out, 2, &form.widths, &values);
     put_bytes(out, form.size, &readings[..readings_size(call)]);
 }

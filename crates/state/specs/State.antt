@@ -98,49 +98,13 @@ stage_number Closed = 3
 
 -- the book with other units, consumers or balances
 abbrev pub with_units : Book → List Unit → Book
-with_units b us =
-    record {
-      stage = b.stage;
-      hours = b.hours;
-      units = us;
-      consumers = b.consumers;
-      balances = b.balances;
-      dmp = b.dmp;
-      offers = b.offers;
-      efficient = b.efficient;
-      limits = b.limits;
-      closing = b.closing;
-    }
+with_units b us = record b { units = us }
 
 abbrev pub with_consumers : Book → List Consumer → Book
-with_consumers b xs =
-    record {
-      stage = b.stage;
-      hours = b.hours;
-      units = b.units;
-      consumers = xs;
-      balances = b.balances;
-      dmp = b.dmp;
-      offers = b.offers;
-      efficient = b.efficient;
-      limits = b.limits;
-      closing = b.closing;
-    }
+with_consumers b xs = record b { consumers = xs }
 
 abbrev pub with_balances : Book → List ℕ → Book
-with_balances b l =
-    record {
-      stage = b.stage;
-      hours = b.hours;
-      units = b.units;
-      consumers = b.consumers;
-      balances = l;
-      dmp = b.dmp;
-      offers = b.offers;
-      efficient = b.efficient;
-      limits = b.limits;
-      closing = b.closing;
-    }
+with_balances b l = record b { balances = l }
 
 -- number 3 comes first, for every call: what the ranges answer, and the rest if they answer 0
 abbrev pub ranged : Call → List ℕ → ℕ → ℕ

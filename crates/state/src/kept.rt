@@ -6,7 +6,8 @@ use plant::Plant;
 use power::{Components, Hours, Kw};
 use quantities::{CONSUMERS, PRODUCERS, UNITS};
 
-// A cell for each pair of a producer and a consumer.
+// A cell for each pair of a producer and a consumer, a row for each producer, one behind the other: the book has arrays of figures, and one
+// index stores into it.
 pub const CELLS: usize = PRODUCERS * CONSUMERS;
 
 // The four stages, each leading to the next.
@@ -19,7 +20,7 @@ pub enum Stage {
 }
 
 // What a unit was enrolled with.
-#[derive(Clone, Copy)]
+#[derive(Clone, Copy, Debug, PartialEq, Eq)]
 pub struct Entry {
     pub producer: u32,
     pub flags: u32,
@@ -28,22 +29,22 @@ pub struct Entry {
 }
 
 // A unit: its enrolment, if there is one, and its components.
-#[derive(Clone, Copy)]
+#[derive(Clone, Copy, Debug, PartialEq, Eq)]
 pub struct Unit {
     pub enrolment: Option<Entry>,
     pub components: Components,
 }
 
 // What a consumer declared, D and A, and its firm demand DF, 0 before the fix, all kW.
-#[derive(Clone, Copy)]
+#[derive(Clone, Copy, Debug, PartialEq, Eq)]
 pub struct Figures {
     pub d: u32,
     pub a: u32,
     pub df: u32,
 }
 
-// An enum of the book's own: a consumer's record says that it is undeclared, or declared with figures.
-#[derive(Clone, Copy)]
+// An enum of its own in the place of an Option: undeclared is what a consumer is called, and no figure that is missing.
+#[derive(Clone, Copy, Debug, PartialEq, Eq)]
 pub enum Declaration {
     Undeclared,
     Declared(Figures),
@@ -67,14 +68,15 @@ impl Declaration {
     }
 }
 
-#[derive(Clone, Copy)]
+#[derive(Clone, Copy, Debug, PartialEq, Eq)]
 pub struct Consumer {
     pub declaration: Declaration,
     pub reading: Option<u32>,
 }
 
-// The figures of the close: each consumer's DFA in kW, charge and credit in cents, their sums, and what is distributed to nobody.
-#[derive(Clone, Copy)]
+// The figures of the close: each consumer's DFA in kW, charge and credit in cents, their sums, and what is distributed to nobody. Arrays
+// of figures, beside each other: a division takes one whole.
+#[derive(Clone, Copy, Debug, PartialEq, Eq)]
 pub struct CloseFigures {
     pub adjusted: [u32; CONSUMERS],
     pub charges: [u64; CONSUMERS],
@@ -84,7 +86,8 @@ pub struct CloseFigures {
     pub undistributed: u64,
 }
 
-#[derive(Clone, Copy)]
+// A struct by value, with an array of figures for each thing that is kept of units and producers.
+#[derive(Clone, Copy, Debug, PartialEq, Eq)]
 pub struct Book {
     pub stage: Stage,
     pub hours: Hours,

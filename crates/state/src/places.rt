@@ -5,7 +5,7 @@ ghost use Rattle.state.specs.Places.{place_of};
 
 use quantities::{CONSUMERS, UNITS};
 
-// The place of a number from 1 on, 0 where it is out of range.
+// The place of a number from 1 on, 0 where it is out of range: no Option, since a call out of range is refused whatever stands there.
 fn place_of(greatest: usize, number: u32) -> usize
     ensures { result ≡ place_of greatest number }
 {

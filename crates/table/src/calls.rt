@@ -11,7 +11,7 @@ use power::{Hours, Minutes, Trial};
 
 // A call by what it concerns, with its fields in the table's order: the whole book, a unit, a consumer, or a producer's contract with a
 // consumer.
-#[derive(Clone, Copy)]
+#[derive(Clone, Copy, Debug, PartialEq, Eq)]
 pub enum Call {
     Year(Hours),
     Fix {

@@ -1,6 +1,6 @@
 // What is told of a consumer.
 
-#[derive(Clone, Copy)]
+#[derive(Clone, Copy, Debug, PartialEq, Eq)]
 pub enum ConsumerCall {
     Declare { d: u32, a: u32 },
     Meter { dreal: u32 },

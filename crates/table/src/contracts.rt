@@ -1,6 +1,6 @@
 // What is done to a contract between a producer and a consumer.
 
-#[derive(Clone, Copy)]
+#[derive(Clone, Copy, Debug, PartialEq, Eq)]
 pub enum ContractCall {
     Commit { q: u32 },
     Release { q: u32 },

@@ -4,7 +4,7 @@
 pub const FIELDS: usize = 9;
 
 // The records, in the table's order.
-#[derive(Clone, Copy)]
+#[derive(Clone, Copy, Debug, PartialEq, Eq)]
 pub enum Mark {
     Year,
     Enrol,
@@ -19,22 +19,23 @@ pub enum Mark {
 }
 
 // A record's mark, low byte first, the bytes of mark and fields together, and each field's width, 0 where there is no field.
-#[derive(Clone, Copy)]
+#[derive(Clone, Copy, Debug, PartialEq, Eq)]
 pub struct Form {
     pub mark: u32,
     pub size: usize,
     pub widths: [usize; FIELDS],
 }
 
-// A call's fields as its record has them: the form, and the values, 0 where there is no field.
-#[derive(Clone, Copy)]
+// A call's fields as its record has them: the form, and the values, 0 where there is no field. Two arrays: the widths are the record's,
+// the values the call's.
+#[derive(Clone, Copy, Debug, PartialEq, Eq)]
 pub struct Fields {
     pub form: Form,
     pub values: [u32; FIELDS],
 }
 
 // The fields that a kind of unit uses, with the flag of its supply report.
-#[derive(Clone, Copy)]
+#[derive(Clone, Copy, Debug, PartialEq, Eq)]
 pub struct Uses {
     pub report: bool,
     pub ppr: bool,

@@ -11,7 +11,7 @@ use quantities::{
 };
 
 // A field's column: its width in bytes, its least and its greatest value.
-#[derive(Clone, Copy)]
+#[derive(Clone, Copy, Debug, PartialEq, Eq)]
 pub struct Column {
     pub width: usize,
     pub least: u32,
@@ -28,7 +28,7 @@ impl Column {
 }
 
 // A record's line: its mark, low byte first, its columns, and the bytes of each reading behind the fields, 0 where there are none.
-#[derive(Clone, Copy)]
+#[derive(Clone, Copy, Debug, PartialEq, Eq)]
 pub struct Line {
     pub mark: u32,
     pub columns: [Column; FIELDS],

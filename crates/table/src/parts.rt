@@ -9,7 +9,7 @@ use crate::forms::{FIELDS, Mark};
 use crate::units::UnitCall;
 
 // The values are 0 where there is no field.
-#[derive(Clone, Copy)]
+#[derive(Clone, Copy, Debug, PartialEq, Eq)]
 pub struct Parts {
     pub mark: Mark,
     pub values: [u32; FIELDS],

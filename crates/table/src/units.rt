@@ -2,7 +2,7 @@
 use power::{Minutes, Trial};
 
 // What a unit is enrolled with: its producer, its kind, its flags, and the figures that kinds and flags use, 0 where they do not.
-#[derive(Clone, Copy)]
+#[derive(Clone, Copy, Debug, PartialEq, Eq)]
 pub struct Enrolling {
     pub producer: u32,
     pub kind: u32,
@@ -16,7 +16,7 @@ pub struct Enrolling {
 
 // What is asked of a unit, with the fields of its record behind the unit. A test's readings are lent beside the call, four bytes each, low
 // byte first.
-#[derive(Clone, Copy)]
+#[derive(Clone, Copy, Debug, PartialEq, Eq)]
 pub enum UnitCall {
     Enrol(Enrolling),
     Test { component: u32, trial: Trial },

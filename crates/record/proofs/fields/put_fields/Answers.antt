@@ -45,7 +45,7 @@ loop-width-preserved c =
       room = omega arith;
       place = omega arith;
       left =
-          rw c.put_number.ensures (encode_more w v ws vs l.out l.place (omega arith))
+          rw (c.put_number.ensures, c.from.ensures) (encode_more w v ws vs l.out l.place (omega arith))
           ∙ sym (ap (λ x. written l.out l.place (encode x (iter_rest (zip_second s)))) more.0 ∙ ap (λ x. written l.out l.place (encode (w ∷ ws) x)) more.1)
           ∙ l.invariant.left;
     }

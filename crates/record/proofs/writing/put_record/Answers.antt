@@ -27,5 +27,5 @@ returns c =
     let a = c.args in
     let rs = a.readings.now in
     let f = c.fields_of in
-    rw (c.put_bytes.ensures, c.readings_size.ensures.value, c.put_fields.ensures, c.put_number.ensures)
+    rw (c.put_bytes.ensures, c.readings_size.ensures.value, c.put_fields.ensures, c.put_number.ensures, c.from.ensures)
     (record_put a.call rs a.out.now f.ensures c.requires.1 ((of_parts a.call).lent rs (in_range a.call rs c.requires.0).1))
