@@ -10,16 +10,19 @@ ghost use Rattle.claims.specs.Printed.{AlwaysPrinted};
 ghost use Rattle.claims.specs.Journals.{EveryJournal};
 
 // Demand 3 holds after every list of calls.
+#[tactic(auto, using(crate::proofs::Theorem::demand3))]
 pub fn demand3()
     ensures { Claim }
 {}
 
 // After every list of calls, any further call answers the number of the listed conditions.
+#[tactic(auto, using(crate::proofs::Refusals::exact_refusals))]
 pub fn exact_refusals()
     ensures { ExactRefusals }
 {}
 
 // The thirteen cases that the papers fix.
+#[tactic(auto, using(crate::proofs::Cases::thirteen))]
 pub fn thirteen()
     ensures { Thirteen }
 {}
