@@ -11,7 +11,7 @@ pub const LONGEST_BY_CONSUMER: usize = CONSUMERS * LONGEST_LINE;
 
 // The line D of a consumer, none where it is not declared.
 #[tactic(auto, unfolding(crate::specs::Letters::demand_line))]
-fn demand_line(number: u64, declaration: Declaration) -> Text<LONGEST_LINE>
+fn demand_line(number: usize, declaration: Declaration) -> Text<LONGEST_LINE>
     ensures { result ≡ demand_line number declaration }
 {
     match declaration {
@@ -28,16 +28,13 @@ fn demand_line(number: u64, declaration: Declaration) -> Text<LONGEST_LINE>
 pub fn demand_lines(consumers: &[Consumer; CONSUMERS]) -> Text<LONGEST_BY_CONSUMER>
     ensures { result ≡ demand_lines consumers.now }
 {
-    Text::join(
-        CONSUMERS,
-        |i| demand_line(i as u64 + 1, consumers[i].declaration),
-    )
+    Text::join(CONSUMERS, |i| demand_line(i + 1, consumers[i].declaration))
 }
 
-// The line S of a consumer, none where it is not declared.
+// The line S of a consumer, none where it is not declared; its figures come one by one, as the book keeps each in an array of its own.
 #[tactic(auto, unfolding(crate::specs::Letters::settlement_line))]
 fn settlement_line(
-    number: u64,
+    number: usize,
     declaration: Declaration,
     adjusted: u32,
     charge: u64,
@@ -69,7 +66,7 @@ pub fn settlement_lines(
 {
     Text::join(CONSUMERS, |i| {
         settlement_line(
-            i as u64 + 1,
+            i + 1,
             consumers[i].declaration,
             closing.adjusted[i],
             closing.charges[i],

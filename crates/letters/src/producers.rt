@@ -13,7 +13,7 @@ pub const LONGEST_BY_PRODUCER: usize = PRODUCERS * LONGEST_LINE;
 
 // The line P of a producer, none where it has no unit.
 #[tactic(auto, unfolding(crate::specs::Letters::producer_line))]
-fn producer_line(number: u64, owner: bool, limit: u32, balance: u64) -> Text<LONGEST_LINE>
+fn producer_line(number: usize, owner: bool, limit: u32, balance: u64) -> Text<LONGEST_LINE>
     ensures { result ≡ producer_line number owner limit balance }
 {
     if owner {
@@ -38,7 +38,7 @@ pub fn producer_lines(
     Text::join(PRODUCERS, |i| {
         let producer = i as u32 + 1;
         producer_line(
-            i as u64 + 1,
+            i + 1,
             has_unit(units, producer),
             limits[i],
             producer_balance(balances, producer),

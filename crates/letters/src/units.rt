@@ -1,6 +1,5 @@
 // The lines of units, and whose units they are.
 ghost use Rattle.std.specs.Prelude.{◌≡◌};
-ghost use Rattle.fix.specs.Fix.{producer_by};
 ghost use Rattle.letters.specs.Letters.{unit_line, unit_lines, owners_of, owns};
 
 use quantities::UNITS;
@@ -13,7 +12,7 @@ pub const LONGEST_BY_UNIT: usize = UNITS * LONGEST_LINE;
 // The line U of a unit, none where it is not enrolled.
 #[tactic(auto, unfolding(crate::specs::Letters::unit_line))]
 fn unit_line(
-    number: u64,
+    number: usize,
     enrolment: Option<Entry>,
     offer: u32,
     efficient: u32,
@@ -44,23 +43,14 @@ pub fn unit_lines(
 {
     Text::join(
         UNITS,
-        |i| unit_line(i as u64 + 1, units[i].enrolment, offers[i], efficient[i]),
+        |i| unit_line(i + 1, units[i].enrolment, offers[i], efficient[i]),
     )
 }
 
-// The producer of a unit, 0 if it is not enrolled.
-fn owner_of(enrolment: Option<Entry>) -> u32
-    ensures { result ≡ producer_by enrolment }
-{
-    enrolment.map_or(0, |entry| entry.producer)
-}
-
-// Whether a producer has a unit.
+// Whether a producer has a unit; one that is not enrolled is of producer 0, which no line has.
 #[tactic(auto, unfolding(crate::specs::Letters::owners_of))]
 pub(crate) fn has_unit(units: &[Unit; UNITS], producer: u32) -> bool
     ensures { result ≡ owns (owners_of units.now) producer }
 {
-    units
-        .iter()
-        .any(|unit| owner_of(unit.enrolment) == producer)
+    units.iter().any(|unit| unit.enrolment.map_or(0, |entry| entry.producer) == producer)
 }

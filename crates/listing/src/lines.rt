@@ -76,11 +76,7 @@ pub fn listing(run: &Run) -> Text<LONGEST>
     listing.push_text(&stage_lines(&run.book));
     listing.push_text(&line(
         b'R',
-        &[
-            (run.read as u64).into(),
-            (run.accepted as u64).into(),
-            (run.refused as u64).into(),
-        ],
+        &[run.read.into(), run.accepted.into(), run.refused.into()],
     ));
     listing
 }

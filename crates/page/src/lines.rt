@@ -14,15 +14,15 @@ pub(crate) fn heading(page: usize) -> Text<LINE>
 {
     let mut heading = Text::new();
     heading.push_str("PAGE ");
-    heading.push_text(&Amount::from(page as u64).column::<4>());
+    heading.push_text(&Amount::from(page).column::<4>());
     heading.push_bytes(&[b' '; 27]);
     heading.push(b'\n');
     heading
 }
 
-// The line of a declared consumer.
+// The line of a declared consumer; its figures come one by one, as the book keeps each in an array of its own.
 #[tactic(auto, unfolding(crate::specs::Page::line_with))]
-pub(crate) fn line(number: u64, df: u32, dfa: u32, charge: u64, credit: u64) -> Text<LINE>
+pub(crate) fn line(number: usize, df: u32, dfa: u32, charge: u64, credit: u64) -> Text<LINE>
     ensures { result ≡ line_of number df dfa charge credit }
 {
     let demand = Amount::from(u64::from(df));

@@ -46,7 +46,7 @@ fn placed(lines: usize, line: &Text<LINE>) -> Text<LONGEST_ADDED>
     text
 }
 
-// All lines and headings over the front of out.
+// All lines and headings over the front of out, each in its place: the text lies in the caller's memory alone.
 pub(crate) fn put_lines(consumers: &[Consumer; CONSUMERS], closing: &CloseFigures, out: &mut [u8])
     requires { bytes_for (length (declared_consumers consumers.now)) ≤ length out.old }
     ensures { out.new ≡ written out.old 0 (pages_of (lines_of consumers.now closing.now.adjusted closing.now.charges closing.now.credits)) }
@@ -57,7 +57,7 @@ pub(crate) fn put_lines(consumers: &[Consumer; CONSUMERS], closing: &CloseFigure
             continue;
         };
         let settlement = line(
-            i as u64 + 1,
+            i + 1,
             figures.df,
             closing.adjusted[i],
             closing.charges[i],

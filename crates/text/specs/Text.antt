@@ -11,6 +11,7 @@ digits (suc turns) x =
     let more = digits turns (x / 10) ++ ((48 + x % 10) ∷ []) in
     pick (ltb x 10) ((48 + x) ∷ []) more
 
+-- .. of any number: std's `decimal` ends at 64 digits, and its laws with it
 unfoldable pub decimal : ℕ → List ℕ
 decimal x = digits (suc x) x
 

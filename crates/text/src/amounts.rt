@@ -31,6 +31,15 @@ impl From<u64> for Amount {
     }
 }
 
+// A count, which has 64 bits; std has no `From` between the two.
+impl From<usize> for Amount {
+    ghost from_gives = { λ x a. a ≡ plain x };
+
+    fn from(count: usize) -> Self {
+        Amount::from(count as u64)
+    }
+}
+
 impl Amount {
     // The digits, with a minus sign directly before them where the amount is below 0.
     #[tactic(auto, unfolding(crate::specs::Text::amount_of))]

@@ -10,7 +10,7 @@ ghost use Rattle.text.specs.Text.{joined};
 pub use amounts::{Amount, LONGEST_AMOUNT, LONGEST_DECIMAL, LONGEST_LINE, decimal, line};
 use std::marker::Model;
 
-// A text of at most N bytes, which lie in the value itself.
+// A text of at most N bytes, which lie in the value itself. It has no derived equality, which would compare the bytes behind the text too.
 #[derive(Drop)]
 pub struct Text<const N: usize> {
     bytes: [u8; N],
