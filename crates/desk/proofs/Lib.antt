@@ -1,6 +1,5 @@
 -- What the checker checks of the program's words.
 pub mod Lines
-pub mod Found
 pub mod Telling
 pub mod Silence
 pub mod Printed

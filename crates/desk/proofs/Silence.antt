@@ -1,5 +1,5 @@
--- None is found exactly where the whole input was read and nothing was refused.
-use Rattle.std.specs.Prelude.{Option, None, Some}
+-- Nothing is found exactly where the whole input was read and nothing was refused.
+use Rattle.std.specs.Prelude.{codes, Option, None, Some}
 use mathlib.Core.Path.{◌≡◌, refl}
 use mathlib.Core.Bool.{Bool, true, false}
 use mathlib.Core.List.{List, [], ◌∷◌, ◌++◌}
@@ -13,7 +13,6 @@ use Rattle.journal.specs.declared.outcome.Refused.{Refused}
 use Rattle.journal.specs.Run.{run_of}
 use Rattle.journal.proofs.Refusals.{naming}
 use Rattle.listing.specs.Listing.{most_input}
-use Rattle.text.specs.Text.{bytes}
 use Rattle.words.specs.Numbers.{at_place}
 use Rattle.desk.specs.Findings.{refusals, stopping, findings_of, nothing_read, findings_for}
 use Rattle.desk.specs.Promises.{SilentExactly}
@@ -24,15 +23,15 @@ begun e = let z : ◌≡◌ {A = ℕ} 0 1 = cc in absurd (omega arith)
 
 -- nothing is said of refusals only where none is named, and of a stop only where there is none
 no_refusals : (f : Option Refused) (refused read : ℕ) → refusals f refused read ≡ [] → f ≡ None
-unfolding refusals bytes
+unfolding refusals
 no_refusals None refused read e = refl
 no_refusals (Some first) refused read e = begun e
 
 no_stop : (stop place : ℕ) → stopping stop place ≡ [] → stop ≡ 0
-unfolding stopping bytes
+unfolding stopping
 no_stop stop place = go (eqb stop 0) refl
   where
-    go : (t : Bool) → eqb stop 0 ≡ t → pick t [] (bytes "yearbook: reading stopped at byte " ++ at_place place stop) ≡ [] → stop ≡ 0
+    go : (t : Bool) → eqb stop 0 ≡ t → pick t [] (codes "yearbook: reading stopped at byte " ++ at_place place stop) ≡ [] → stop ≡ 0
     go true e h = eqb-true stop 0 e
     go false e h = begun h
 
@@ -44,7 +43,7 @@ both_empty (x ∷ a) b e = begun e
 module _ (input : List ℕ) where
   -- an input that was taken, with its findings
   pub found : findings_for input ≡ [] → (length input ≤ most_input) × (findings_of (run_of input) ≡ [])
-  unfolding findings_for bytes
+  unfolding findings_for
   found = go (ltb most_input (length input)) refl
     where
       go : (t : Bool) → ltb most_input (length input) ≡ t → pick t nothing_read (findings_of (run_of input)) ≡ [] → (length input ≤ most_input) × (findings_of (run_of input) ≡ [])
