@@ -21,6 +21,7 @@ pub struct Rest {
 }
 
 // All replies to an input, none where it is too long.
+#[tactic(auto, unfolding(crate::specs::Replies::lines_from, crate::specs::Replies::replies_of, crate::specs::Replies::replies_for))]
 pub fn all_replies(input: &[u8]) -> Rest
     ensures { rest_of input.now result ≡ replies_for input.now }
 {
