@@ -124,9 +124,9 @@ module _ (n : ℕ) (s : List ℕ) (r : Run) (c : Call) (from next : ℕ) (p : re
       go w h (suc k) l = w.earlier k (omega arith)
 
 -- what is named, where something is
-abbrev named : Option Refused → Refused
-named None = record { place = 0; number = 0 }
-named (Some first) = first
+abbrev the_named : Option Refused → Refused
+the_named None = record { place = 0; number = 0 }
+the_named (Some first) = first
 
 named_from : (n : ℕ) (s : List ℕ) (r : Run) (place number : ℕ) → r.first ≡ None → (run_from n s r).first ≡ named_at place number → FirstFrom n s r place number
 unfolding run_from
@@ -150,8 +150,8 @@ named_from (suc n) s r place number h e = go (read_at s r.place) refl (λ q a b.
             let m = (step_of r.book c (part_of s from next)).number in
             let g : (turned s r c from next).first ≡ named_at r.place m = rw b (ap (λ (x : Option Refused). refused_at x r.place m) h) in
             let k : named_at r.place m ≡ named_at place number = sym (names_stay n s (turned s r c from next) r.place m g) ∙ w in
-            let l : m ≡ number = ap (λ f. (named f).number) k in
-            first_here n s r c from next p (ap (λ f. (named f).place) k) l (λ z. eqb-false m 0 b (l ∙ z))
+            let l : m ≡ number = ap (λ f. (the_named f).number) k in
+            first_here n s r c from next p (ap (λ f. (the_named f).place) k) l (λ z. eqb-false m 0 b (l ∙ z))
 
 -- what is named is the first refused record
 pub named_first : (s : List ℕ) (place number : ℕ) → (run_of s).first ≡ named_at place number → FirstRefusedAt s place number

@@ -1,5 +1,5 @@
 -- The records that a run reads: their calls as a list of demand 3, their places and the numbers of the replies.
-use Rattle.std.specs.Prelude.{◌≡◌, List, [], ◌∷◌, ℕ, zero, suc, ◌<◌, length, get_or}
+use Rattle.std.specs.Prelude.{◌≡◌, List, [], ◌∷◌, map, ℕ, zero, suc, ◌<◌, length, get_or}
 use Rattle.table.specs.declared.calls.Call.{Call}
 use Rattle.record.specs.declared.reading.Read.TheVariants.{End, Cut, Unknown, Record}
 use Rattle.record.specs.Reading.{read_at, part_of}
@@ -7,27 +7,31 @@ use Rattle.state.specs.declared.kept.Book.{Book}
 use Rattle.state.specs.State.{fresh_book}
 use Rattle.book.specs.Lists.{Event, reply_to}
 
--- the calls from a place on, in so many turns; "A read test shows its readings as that part of the lent journal."
-unfoldable pub calls_from : ℕ → List ℕ → ℕ → List Event
-calls_from zero s at = []
-calls_from (suc turns) s at =
+-- a record that was read: its place, and its call with the readings lent with it
+pub record Recorded : Type 0 where
+  pub place : ℕ
+  pub event : Event
+
+-- the records from a place on, in so many turns; "A read test shows its readings as that part of the lent journal." "The place is the
+-- offset of the record's first byte."
+unfoldable pub records_from : ℕ → List ℕ → ℕ → List Recorded
+records_from zero s at = []
+records_from (suc turns) s at =
     elim (read_at s at) [
       | End ↦ []
       | Cut ↦ []
       | Unknown ↦ []
-      | Record call readings next ↦ record { call = call; readings = part_of s readings next } ∷ calls_from turns s next
+      | Record call readings next ↦
+          record { place = at; event = record { call = call; readings = part_of s readings next } } ∷ records_from turns s next
     ]
 
--- the places of their records; "The place is the offset of the record's first byte."
+-- their calls
+unfoldable pub calls_from : ℕ → List ℕ → ℕ → List Event
+calls_from turns s at = map (λ r. r.event) (records_from turns s at)
+
+-- their places
 unfoldable pub places_from : ℕ → List ℕ → ℕ → List ℕ
-places_from zero s at = []
-places_from (suc turns) s at =
-    elim (read_at s at) [
-      | End ↦ []
-      | Cut ↦ []
-      | Unknown ↦ []
-      | Record call readings next ↦ at ∷ places_from turns s next
-    ]
+places_from turns s at = map (λ r. r.place) (records_from turns s at)
 
 unfoldable pub calls_of : List ℕ → List Event
 calls_of s = calls_from (suc (length s)) s 0

@@ -1,6 +1,5 @@
 -- What is promised of the run over a journal, beyond its own definition.
-use Rattle.std.specs.Prelude.{◌≡◌, List, [], ◌∷◌, ℕ, ◌+◌, ◌≤◌, ◌<◌, eqb, length, get_or, Option, None, Some}
-use Rattle.basis.specs.Choice.{pick}
+use Rattle.std.specs.Prelude.{◌≡◌, List, ℕ, ◌≤◌, ◌<◌, eqb, not, count_by, length, get_or, Option, None, Some}
 use Rattle.record.specs.Reading.{read_at, stop_number}
 use Rattle.record.specs.declared.reading.Read.TheVariants.{Cut, Unknown}
 use Rattle.journal.specs.declared.outcome.Refused.{Refused}
@@ -23,19 +22,10 @@ RunEnds = (s : List ℕ) → Ends s (run_of s)
 abbrev pub ReadLength : Type 0
 ReadLength = (s : List ℕ) → (run_of s).read ≡ length (calls_of s)
 
--- how many of the replies accept, and how many refuse, by their numbers: "A call is accepted if it returned 0."
-unfoldable pub accepted_in : List ℕ → ℕ
-accepted_in [] = 0
-accepted_in (n ∷ ns) = pick (eqb n 0) 1 0 + accepted_in ns
-
-unfoldable pub refused_in : List ℕ → ℕ
-refused_in [] = 0
-refused_in (n ∷ ns) = pick (eqb n 0) 0 1 + refused_in ns
-
--- the counts of a run are those of the replies to the records that it read
+-- the counts of a run are those of the replies to the records that it read, by their numbers: "A call is accepted if it returned 0."
 pub record CountsReplies (s : List ℕ) : Type 0 where
-  pub accepted : (run_of s).accepted ≡ accepted_in (reply_numbers s)
-  pub refused : (run_of s).refused ≡ refused_in (reply_numbers s)
+  pub accepted : (run_of s).accepted ≡ count_by (λ n. eqb n 0) (reply_numbers s)
+  pub refused : (run_of s).refused ≡ count_by (λ n. not (eqb n 0)) (reply_numbers s)
 
 abbrev pub RepliesCounted : Type 0
 RepliesCounted = (s : List ℕ) → CountsReplies s

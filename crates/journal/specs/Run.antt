@@ -1,10 +1,9 @@
 -- The run over a journal ("Journal records").
-use Rattle.std.specs.Prelude.{List, [], ◌∷◌, ℕ, zero, suc, ◌+◌, eqb, length, Option, None, Some}
+use Rattle.std.specs.Prelude.{List, [], ◌∷◌, map, ℕ, zero, suc, ◌+◌, eqb, length, Option, None, Some}
 use Rattle.basis.specs.Choice.{pick}
 use Rattle.record.specs.declared.reading.Read.TheVariants.{End, Cut, Unknown, Record}
 use Rattle.record.specs.Reading.{read_at, stop_number, part_of}
-use Rattle.state.specs.State.{Reply}
-use Rattle.state.specs.State.{fresh_book}
+use Rattle.state.specs.State.{Reply, fresh_book}
 use Rattle.book.specs.Step.{step_of}
 use Rattle.journal.specs.declared.outcome.Refused.{Refused}
 use Rattle.journal.specs.declared.outcome.Run.{Run}
@@ -18,17 +17,20 @@ started =
 abbrev pub named_at : ℕ → ℕ → Option Refused
 named_at place number = Some (record { place = place; number = number })
 
--- what the answer names: no place where nothing was refused, else the place of one record
+-- what the answer names: no record where nothing was refused, else one
+abbrev pub named : Option Refused → List Refused
+named None = []
+named (Some first) = first ∷ []
+
+-- .. its place
 abbrev pub named_places : Option Refused → List ℕ
-named_places None = []
-named_places (Some first) = first.place ∷ []
+named_places f = map (λ first. first.place) (named f)
 
 -- .. and its number
 abbrev pub named_numbers : Option Refused → List ℕ
-named_numbers None = []
-named_numbers (Some first) = first.number ∷ []
+named_numbers f = map (λ first. first.number) (named f)
 
--- .. the first one stays
+-- .. the first one that was refused stays
 abbrev pub refused_at : Option Refused → ℕ → ℕ → Option Refused
 refused_at None place number = named_at place number
 refused_at (Some first) place number = Some first

@@ -1,6 +1,6 @@
 // The book of a run. Beside it stand, from the fix on, the figures from which a close's number is found: what all consumers declared, and
 // the real demand of each. Calls of a unit, a consumer or a contract are stored in place; year, fix and close are calls on the whole book,
-// which is copied only once such a call is found to be accepted.
+// which is copied only once such a call is found to be accepted. A ledger itself is neither copied nor compared.
 ghost use Rattle.std.specs.Prelude.{◌≡◌};
 ghost use Rattle.quantities.specs.Refusals.{met};
 ghost use Rattle.state.specs.State.{fresh_book, reply_with};

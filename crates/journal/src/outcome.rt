@@ -8,28 +8,29 @@ use quantities::{Refusal, number_met};
 use state::Book;
 
 // The place of a record that was refused, and the number that it met.
-#[derive(Clone, Copy)]
+#[derive(Clone, Copy, Debug, PartialEq, Eq)]
 pub struct Refused {
     pub place: usize,
     pub number: u32,
 }
 
-#[derive(Clone, Copy)]
+#[derive(Clone, Copy, Debug, PartialEq, Eq)]
 pub struct Run {
     pub book: Book,
     // Records; the one at which the reading stopped is in no count.
     pub read: usize,
     pub accepted: usize,
     pub refused: usize,
-    // The number of the stop and its place, 0 and the journal's length without one.
+    // The number of the stop and its place, 0 and the journal's length without one. A number, as the listing and the function for C tell it.
     pub stop: u32,
     pub place: usize,
     // The first record that was refused, if any was.
     pub first: Option<Refused>,
 }
 
-// What a run has counted, and where it stands, apart from its book.
-#[derive(Clone, Copy)]
+// What a run has counted, and where it stands, apart from its book and its stop. `Run` has the same figures as fields of its own, since its
+// readers name them there.
+#[derive(Clone, Copy, Debug, PartialEq, Eq)]
 pub(crate) struct Tally {
     pub(crate) read: usize,
     pub(crate) accepted: usize,
