@@ -1,4 +1,4 @@
-use Rattle.std.proofs.Common.{◌≤◌, ◌++◌, take, sym, ap, ◌∙◌, arith, lit<}
+use Rattle.std.proofs.Common.{List, ℕ, ◌≤◌, ◌++◌, take, sym, ap, ◌∙◌, arith, lit<}
 use Rattle.journal.specs.declared.outcome.Run.{Run}
 use Rattle.listing.specs.Listing.{listing_most}
 use Rattle.desk.specs.Findings.{findings_of}
@@ -21,7 +21,9 @@ returns-clause-output c =
 
 pub returns-clause-findings : goal.returns-clause-findings
 returns-clause-findings c =
-    rw (c.push_text-2.ensures.text, c.push_text.ensures.text, c.new-findings.ensures, c.found.ensures, c.unclosed.ensures)
-    (ap (λ n. findings_of c.run-run.result ++ unclosed n) (number_open c.run-run.result.book c.put_page-printed.result (omega arith) c.put_page-printed.ensures)
+    c.push_text-2.ensures.text
+    ∙ ap (λ (l : List ℕ). l ++ c.unclosed.result) (c.push_text.ensures.text ∙ ap (λ (l : List ℕ). l ++ c.found.result) c.new-findings.ensures ∙ c.found.ensures)
+    ∙ ap (λ (l : List ℕ). findings_of c.run-run.result ++ l) c.unclosed.ensures
+    ∙ ap (λ n. findings_of c.run-run.result ++ unclosed n) (number_open c.run-run.result.book c.put_page-printed.result (omega arith) c.put_page-printed.ensures)
     ∙ ap (λ (r : Run). findings_of r ++ unclosed (open_number r.book)) c.run-run.ensures
-    ∙ sym (page-findings_run c.args.input.now c.if-input-gt-MOST_INPUT.false))
+    ∙ sym (page-findings_run c.args.input.now c.if-input-gt-MOST_INPUT.false)
