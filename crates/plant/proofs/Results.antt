@@ -67,15 +67,15 @@ module _ (x : Component) (cap : Option Kw) (ending tc count : ℕ) (bytes : List
   test-within most old new =
       grind (arith, nat_tests, after_test-within most cap ending x (measured_by x ending tc count bytes) old, λ (e : test_number ending tc count bytes ≡ 0). new (accepted-test ending tc count bytes e))
 
-pub test-within-greatest : TestWithinGreatest
-test-within-greatest x cap ending tc count bytes old =
+pub test_within_greatest : TestWithinGreatest
+test_within_greatest x cap ending tc count bytes old =
     test-within x cap ending tc count bytes greatest_power old
     (λ k.
     le_trans (capped_at_most cap (power_of (measured_by x ending tc count bytes)))
     (measured_at_most x.void_trip ending tc count bytes k))
 
-pub test-within_cap : TestWithinCap
-test-within_cap x pic ending tc count bytes old =
+pub test_within_cap : TestWithinCap
+test_within_cap x pic ending tc count bytes old =
     test-within x (Some pic) ending tc count bytes pic.0 old
     (λ k. capped_at_cap pic (power_of (measured_by x ending tc count bytes)))
 

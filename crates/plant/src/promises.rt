@@ -2,11 +2,13 @@
 ghost use Rattle.plant.specs.Promises.{TestWithinCap, TestWithinGreatest, ReadyAtMostWhole, OfferAtMostMaximum, EfficientOrNone};
 
 // A test under a cap leaves a maximum power within the cap if it found one.
+#[tactic(auto, using(crate::proofs::Results::test_within_cap))]
 pub fn test_within_cap()
     ensures { TestWithinCap }
 {}
 
 // A test leaves a maximum power of at most 3,000,000 kW if it found one.
+#[tactic(auto, using(crate::proofs::Results::test_within_greatest))]
 pub fn test_within_greatest()
     ensures { TestWithinGreatest }
 {}
@@ -17,6 +19,7 @@ pub fn ready_at_most_whole()
 {}
 
 // A firm offer is at most the maximum power of component 0.
+#[tactic(auto, using(crate::proofs::Offers::offer_at_most_maximum))]
 pub fn offer_at_most_maximum()
     ensures { OfferAtMostMaximum }
 {}

@@ -12,6 +12,7 @@ pub fn read_is_written()
 {}
 
 // A read record's next place is beyond its start and within the journal.
+#[tactic(auto, using(crate::proofs::RoundTrip::read_is_placed))]
 pub fn read_is_placed()
     ensures { ReadIsPlaced }
 {}

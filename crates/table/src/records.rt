@@ -60,7 +60,8 @@ fn number_of(field: &[u8]) -> u32
     basis::number_at(field, 0, field.len()) as u32
 }
 
-// The values that bytes hold in the widths of a record's fields; those that are not there count as 0.
+// The values that bytes hold in the widths of a record's fields; those that are not there count as 0. By places, since two arrays and what
+// is left of the bytes go on together.
 fn decode(mark: Mark, fields: &[u8]) -> [u32; FIELDS]
     ensures { result ≡ decode (form_of mark).widths fields.now }
 {
