@@ -20,7 +20,7 @@ pub(crate) const LONGEST_UNCLOSED: usize = 43 + LONGEST_SAID;
 
 pub const LONGEST_FINDINGS: usize = LONGEST_FOUND + LONGEST_UNCLOSED;
 
-// What the program prints of an input, and what it finds wrong with it.
+// What the program prints of an input, and what it finds wrong with it. It has no equality, as its texts have none.
 #[derive(Drop)]
 pub struct Told {
     pub output: Text<LONGEST>,

@@ -13,7 +13,7 @@ use words::{LONGEST_CALL, LONGEST_SAID, call_text, said};
 pub const LONGEST_REPLY: usize = LONGEST_DECIMAL + LONGEST_CALL + LONGEST_SAID + 16;
 
 // The replies that are still to be told: at most so many lines, from a place on, with the book that the calls before it have made.
-#[derive(Clone, Copy)]
+#[derive(Clone, Copy, Debug, PartialEq, Eq)]
 pub struct Rest {
     pub left: usize,
     pub place: usize,

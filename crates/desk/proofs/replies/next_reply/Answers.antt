@@ -1,4 +1,4 @@
-use Rattle.std.proofs.Common.{sym, ◌∙◌, arith}
+use Rattle.std.proofs.Common.{sym, ◌∙◌}
 use Rattle.desk.proofs.Lines.{ending, tells_nothing, tells_ending, tells_record}
 use Rattle.desk.proofs.replies.next_reply.Goals as goal
 
