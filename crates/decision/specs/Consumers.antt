@@ -1,5 +1,5 @@
 -- The calls of a consumer: declare, meter ("A later accepted .. declaration or reading replaces the earlier.").
-use Rattle.std.specs.Prelude.{Bool, true, false, [], ℕ, ◌-◌, eqb, set, Some}
+use Rattle.std.specs.Prelude.{Bool, true, false, [], ℕ, ◌-◌, set, Some}
 use Rattle.basis.specs.Choice.{pick}
 use Rattle.table.specs.declared.calls.Call.TheVariants as call
 use Rattle.table.specs.declared.consumers.ConsumerCall.{ConsumerCall}

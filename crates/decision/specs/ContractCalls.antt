@@ -1,5 +1,5 @@
 -- The calls of a contract between a producer and a consumer: commit, release ("commit, release .. belong to firm").
-use Rattle.std.specs.Prelude.{List, [], ℕ, ◌+◌, ◌-◌, eqb, ltb, get_or, set}
+use Rattle.std.specs.Prelude.{List, [], ℕ, ◌+◌, ◌-◌, ltb, get_or, set}
 use Rattle.basis.specs.Choice.{pick, between}
 use Rattle.basis.specs.Sums.{sum}
 use Rattle.quantities.specs.Limits.{producers}

@@ -1,70 +1,82 @@
 -- The listing, the printed close and the figures of a journal's run, told to C or not.
-use mathlib.Core.Path.{◌≡◌, refl, sym, ap, subst, ◌∙◌}
-use mathlib.Core.List.{List}
-use Prim.Native.Nat.{ℕ, ◌≤◌, ◌<◌, ◌^◌}
-use native.Mathlib.Omega.{arith}
-use borrow.Author.Tests.{eq-eqb, ne_eqb, lt-ltb, le-ltb}
-use lib.ListN.{length, get_or}
+use Rattle.std.proofs.Common.{◌≡◌, ℕ, ◌≤◌, ◌<◌, ◌^◌, Bool, true, false, List, length, ap, subst, ◌∙◌, arith}
+use Rattle.std.specs.Prelude.{Err}
+use borrow.Author.Tests.{lt-ltb, le-ltb}
+use lib.Dec.{ltb}
+use lib.ListN.{get_or}
+use Rattle.basis.specs.Choice.{pick}
 use Rattle.basis.specs.Numbers.{all_bytes_of, written}
+use Rattle.quantities.specs.declared.refusals.Refusal.{Refusal}
+use Rattle.quantities.specs.Refusals.{refusal_number, Filled, filled_with, filled}
+use Rattle.quantities.proofs.RefusalLaws.{refusing}
 use Rattle.journal.specs.declared.outcome.Run.{Run}
 use Rattle.journal.specs.Run.{run_of}
-use Rattle.listing.specs.declared.Listed.{Listed}
 use Rattle.listing.specs.Listing.{listing_of, listed_of, Lists}
-use Rattle.listing.proofs.Answers.{listed-size}
 use Rattle.state.specs.declared.kept.Book.{Book}
-use Rattle.page.specs.declared.Printed.{Printed}
 use Rattle.page.specs.Page.{print_number, printed_of, Prints}
 use Rattle.yearbook_c.specs.Yearbook.{ListsJournal, PrintsJournal, figures_of, figures_size, TellsRun}
 
-module _ (s : List ℕ) {old new : List ℕ} {run : Run} {r : Listed} (before : ℕ) (e : run ≡ run_of s) (h : Lists (listing_of run) old r new) where
-  lists : Lists (listing_of (run_of s)) old r new
-  lists = rw e at h
+number_in : {x y : Filled} → x ≡ y → x.number ≡ y.number
+number_in = ap (λ (x : Filled). x.number)
 
+size_in : {x y : Filled} → x ≡ y → x.size ≡ y.size
+size_in = ap (λ (x : Filled). x.size)
+
+-- with number 0 the size is that of the text
+listed_size : (text : List ℕ) (room size : ℕ) → filled_with 0 size ≡ listed_of text room → size ≡ length text
+unfolding listed_of
+listed_size text room size = go (ltb room (length text))
+  where
+    go : (t : Bool) → filled_with 0 size ≡ pick t (filled_with 15 0) (filled_with 0 (length text)) → size ≡ length text
+    go true e = absurd (omega (arith, number_in e))
+    go false e = size_in e
+
+module _ (s : List ℕ) {old new : List ℕ} {run : Run} (before : ℕ) (e : run ≡ run_of s) where
   -- nothing is told
-  pub journal_refused : (r.number ≡ 0 → ⊥) → ListsJournal s old before r.number new before
-  journal_refused n =
+  pub listing_refused : (refusal : Refusal) → Lists (listing_of run) old (filled (Err refusal)) new → ListsJournal s old before (refusal_number refusal) new before
+  listing_refused refusal h =
+      let lists : Lists (listing_of (run_of s)) old (filled (Err refusal)) new = rw e at h in
       record {
-        answer = ap (λ (x : Listed). x.number) lists.answer;
+        answer = number_in lists.answer;
         bytes = lists.bytes;
-        size = rw (ne_eqb r.number 0 n);
+        size = rw (refusing refusal);
         short = lists.short;
       }
 
   -- the size is told
-  pub journal_put : r.number ≡ 0 → ListsJournal s old before 0 new r.size
-  journal_put n =
-      let a : r.number ≡ (listed_of (listing_of (run_of s)) (length old)).number = ap (λ (x : Listed). x.number) lists.answer in
+  pub listing_put : (size : ℕ) → Lists (listing_of run) old (filled_with 0 size) new → ListsJournal s old before 0 new size
+  listing_put size h =
+      let lists : Lists (listing_of (run_of s)) old (filled_with 0 size) new = rw e at h in
       record {
-        answer = sym n ∙ a;
+        answer = number_in lists.answer;
         bytes = lists.bytes;
-        size =
-            ap (λ (x : Listed). x.size) lists.answer ∙ listed-size (listing_of (run_of s)) (length old) (sym a ∙ n);
+        size = listed_size (listing_of (run_of s)) (length old) size lists.answer;
         short = lists.short;
       }
 
-module _ (s : List ℕ) {old new : List ℕ} {b : Book} {r : Printed} (before : ℕ) (e : b ≡ (run_of s).book) (h : Prints b old r new) where
-  prints : Prints (run_of s).book old r new
-  prints = rw e at h
-
-  answered : r.number ≡ print_number (run_of s).book (length old)
-  unfolding printed_of
-  answered = ap (λ (x : Printed). x.number) prints.answer
-
+module _ (s : List ℕ) {old new : List ℕ} {b : Book} (before : ℕ) (e : b ≡ (run_of s).book) where
   -- nothing is told
-  pub page-refused : (r.number ≡ 0 → ⊥) → PrintsJournal s old before r.number new before
-  page-refused n =
-      record { answer = answered; bytes = prints.bytes_left; size = rw (ne_eqb r.number 0 n); short = prints.short }
-
-  -- the size is told
-  pub page_put : r.number ≡ 0 → PrintsJournal s old before 0 new r.size
+  pub page_refused : (refusal : Refusal) → Prints b old (filled (Err refusal)) new → PrintsJournal s old before (refusal_number refusal) new before
   unfolding printed_of
-  page_put n =
+  page_refused refusal h =
+      let prints : Prints (run_of s).book old (filled (Err refusal)) new = rw e at h in
       record {
-        answer = sym n ∙ answered;
+        answer = number_in prints.answer;
         bytes = prints.bytes_left;
-        size =
-            ap (λ (x : Printed). x.size) prints.answer
-            ∙ rw (eq-eqb (print_number (run_of s).book (length old)) 0 (sym answered ∙ n)) refl;
+        size = rw (refusing refusal);
+        short = prints.short;
+      }
+
+  -- the size is told
+  pub page_put : (size : ℕ) → Prints b old (filled_with 0 size) new → PrintsJournal s old before 0 new size
+  unfolding printed_of
+  page_put size h =
+      let prints : Prints (run_of s).book old (filled_with 0 size) new = rw e at h in
+      let answered : 0 ≡ print_number (run_of s).book (length old) = number_in prints.answer in
+      record {
+        answer = answered;
+        bytes = prints.bytes_left;
+        size = size_in prints.answer ∙ rw (← answered);
         short = prints.short;
       }
 

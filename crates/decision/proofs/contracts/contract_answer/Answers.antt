@@ -1,5 +1,5 @@
 -- What passed the ranges has a producer and a consumer of the book.
-use Rattle.std.proofs.Common.{◌≡◌, ◌+◌, ◌-◌, ◌*◌, ◌∙◌, ℕ, [], sym, arith}
+use Rattle.std.proofs.Common.{◌≡◌, ◌-◌, ◌*◌, ℕ, [], arith}
 use Rattle.quantities.specs.Limits.{consumers}
 use Rattle.table.specs.Ranges.{fields_number, rest_in_range, call_number}
 use Rattle.table.specs.declared.calls.Call.TheVariants as call

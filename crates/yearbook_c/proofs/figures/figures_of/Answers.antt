@@ -1,4 +1,4 @@
--- `yearbook_c::figures_of` meets its contract. Assumes nothing.
+-- Each figure has room in eight bytes.
 use mathlib.Core.List.{List, [], ◌∷◌}
 use Prim.Native.Nat.{ℕ, zero, suc, ◌<◌, ◌^◌}
 use native.Mathlib.Omega.{arith}
@@ -21,8 +21,8 @@ one_more {m} {x} {l} h f = record { each = go }
 
 pub returns : goal.returns
 returns c =
-    let r = c.args.run in
+    let r = c.args.run.now in
     let n = c.named_of-named.result in
-    let fits : Below (2 ^ 64) (r.read ∷ r.accepted ∷ r.refused ∷ r.stop ∷ r.place ∷ n.count ∷ n.place ∷ n.number ∷ []) =
+    let fits : Below (2 ^ 64) (r.read ∷ r.accepted ∷ r.refused ∷ c.into.result ∷ r.place ∷ n.count ∷ n.place ∷ n.number ∷ []) =
     one_more (omega arith) (one_more (omega arith) (one_more (omega arith) (one_more (omega arith) (one_more (omega arith) (one_more (omega arith) (one_more (omega arith) (one_more (omega arith) (none (omega arith)))))))))
-    in record { value = rw c.named_of-named.ensures; by_index = fits.each }
+    in record { value = rw (c.into.ensures, c.named_of-named.ensures); by_index = fits.each }

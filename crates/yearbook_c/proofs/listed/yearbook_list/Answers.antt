@@ -1,10 +1,12 @@
--- `yearbook_c::yearbook_list` meets its contract. Assumes nothing.
-use native.Mathlib.Omega.{arith}
-use Rattle.yearbook_c.proofs.Told.{journal_refused, journal_put}
+-- The listing is put, or its number is told.
+use Rattle.yearbook_c.proofs.Told.{listing_refused, listing_put}
 use Rattle.yearbook_c.proofs.listed.yearbook_list.Goals as goal
 
-pub returns-then-number-ne0 : goal.returns-then-number-ne0
-returns-then-number-ne0 c = journal_refused c.args.journal.now c.args.written.now c.run.ensures c.put_listing-listed.ensures c.if-number-ne0.true
+pub returns-in-Ok : goal.returns-in-Ok
+returns-in-Ok c =
+    listing_put c.args.journal.now c.args.written.now c.run.ensures c.in-Ok.size (rw c.in-Ok.is at c.put_listing.ensures)
 
-pub returns : goal.returns
-returns c = journal_put c.args.journal.now c.args.written.now c.run.ensures c.put_listing-listed.ensures (omega arith)
+pub returns-in-Err : goal.returns-in-Err
+returns-in-Err c =
+    rw c.into.ensures
+    (listing_refused c.args.journal.now c.args.written.now c.run.ensures c.in-Err.refusal (rw c.in-Err.is at c.put_listing.ensures))

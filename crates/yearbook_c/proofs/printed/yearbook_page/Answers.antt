@@ -1,15 +1,14 @@
--- `yearbook_c::yearbook_page` meets its contract. Assumes nothing.
+-- The close is printed, or its number is told.
 use mathlib.Core.Path.{ap}
 use Rattle.journal.specs.declared.outcome.Run.{Run}
-use Rattle.yearbook_c.proofs.Told.{page-refused, page_put}
+use Rattle.yearbook_c.proofs.Told.{page_refused, page_put}
 use Rattle.yearbook_c.proofs.printed.yearbook_page.Goals as goal
 
-pub returns-then-number-ne0 : goal.returns-then-number-ne0
-returns-then-number-ne0 c =
-    let a = c.args in
-    page-refused a.journal.now a.length.now (ap (λ (r : Run). r.book) c.run-run.ensures) c.put_page-printed.ensures c.if-number-ne0.true
+pub returns-in-Ok : goal.returns-in-Ok
+returns-in-Ok c =
+    page_put c.args.journal.now c.args.length.now (ap (λ (r : Run). r.book) c.run.ensures) c.in-Ok.size (rw c.in-Ok.is at c.put_page.ensures)
 
-pub returns : goal.returns
-returns c =
-    let a = c.args in
-    page_put a.journal.now a.length.now (ap (λ (r : Run). r.book) c.run-run.ensures) c.put_page-printed.ensures c.if-number-ne0.false
+pub returns-in-Err : goal.returns-in-Err
+returns-in-Err c =
+    rw c.into.ensures
+    (page_refused c.args.journal.now c.args.length.now (ap (λ (r : Run). r.book) c.run.ensures) c.in-Err.refusal (rw c.in-Err.is at c.put_page.ensures))
