@@ -47,6 +47,7 @@ fn placed(lines: usize, line: &Text<LINE>) -> Text<LONGEST_ADDED>
 }
 
 // All lines and headings over the front of out, each in its place: the text lies in the caller's memory alone.
+#[tactic(auto, using(crate::proofs::Growing::count_at_most, crate::proofs::Growing::standing_none))]
 pub(crate) fn put_lines(consumers: &[Consumer; CONSUMERS], closing: &CloseFigures, out: &mut [u8])
     requires { bytes_for (length (declared_consumers consumers.now)) ≤ length out.old }
     ensures { out.new ≡ written out.old 0 (pages_of (lines_of consumers.now closing.now.adjusted closing.now.charges closing.now.credits)) }

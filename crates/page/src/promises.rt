@@ -7,6 +7,7 @@ pub fn always_paged()
 {}
 
 // The printed close of case J.
+#[tactic(auto, using(crate::proofs::Paging::case_j))]
 pub fn case_j()
     ensures { CaseJ }
 {}

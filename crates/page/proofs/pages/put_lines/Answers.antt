@@ -2,18 +2,8 @@ use Rattle.std.proofs.Common.{◌≡◌, ◌++◌, length, ap, sym, ◌∙◌, a
 use Rattle.basis.specs.Numbers.{written}
 use Rattle.quantities.specs.Limits.{consumers}
 use Rattle.page.specs.Page.{heading_behind}
-use Rattle.page.proofs.Growing.{count_at_most, line_at, text_to, text_all, standing_none, standing_same, room_behind, standing_more}
+use Rattle.page.proofs.Growing.{line_at, text_to, text_all, standing_same, room_behind, standing_more}
 use Rattle.page.proofs.pages.put_lines.Goals as goal
-
-pub loop-i-init : goal.loop-i-init
-loop-i-init c = standing_none c.args.consumers.now c.args.closing.now c.args.out.now
-
-pub size_of-place-requires : goal.size_of-place-requires
-size_of-place-requires c = omega (arith, c.loop-i.invariant.count, count_at_most c.args.consumers.now c.loop-i.i)
-
-pub overflow_add-place : goal.overflow_add-place
-overflow_add-place c =
-    omega (arith, c.loop-i.invariant.count, count_at_most c.args.consumers.now c.loop-i.i, c.size_of-place.ensures, c.len.ensures.fits)
 
 pub slice_bounds-copy_from_slice-end : goal.slice_bounds-copy_from_slice-end
 slice_bounds-copy_from_slice-end c =
