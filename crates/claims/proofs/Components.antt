@@ -18,7 +18,7 @@ use Rattle.power.specs.declared.quantity.Kw.{Kw}
 use Rattle.power.specs.declared.component.Component.{Component}
 use Rattle.power.specs.declared.component.Minutes.{Minutes}
 use Rattle.power.specs.declared.component.Trial.{Trial}
-use Rattle.plant.proofs.Results.{test-within-greatest, test-within_cap, availability_keeps_maximum}
+use Rattle.plant.proofs.Results.{test_within_greatest, test_within_cap, availability_keeps_maximum}
 use Rattle.table.proofs.Laws.{Numbered}
 use Rattle.table.specs.Records.{parts_of}
 use Rattle.table.specs.declared.calls.Call.TheVariants as call
@@ -168,7 +168,7 @@ module _ (h : List Event) (b : Book) (k : Kept h b) (unit component : ℕ) (numb
 
     within : (cap : Option Kw) (x : Component) → Within cap x → Within cap (test_of x cap trial.ending trial.tc trial.count readings).component
     within None x q = le_refl (maximum_power (test_of x None trial.ending trial.tc trial.count readings).component).0
-    within (Some m) x q = test-within_cap x m trial.ending trial.tc trial.count readings q
+    within (Some m) x q = test_within_cap x m trial.ending trial.tc trial.count readings q
 
     after_is : after ≡ (test_of (component_in h unit component) (cap_of (entry_in h unit)) trial.ending trial.tc trial.count readings).component
     after_is =
@@ -180,7 +180,7 @@ module _ (h : List Event) (b : Book) (k : Kept h b) (unit component : ℕ) (numb
     test_plants =
         component_stored h b k test unit component after numbered few refl refl this
         (subst⁻¹ (λ x. Within (cap_of (entry_in h unit)) x) after_is (within (cap_of (entry_in h unit)) (component_in h unit component) (k.plants.power_capped unit component)))
-        (subst⁻¹ (λ x. (maximum_power x).0 ≤ greatest_power) after_is (test-within-greatest (component_in h unit component) (cap_of (entry_in h unit)) trial.ending trial.tc trial.count readings (k.plants.power_small unit component)))
+        (subst⁻¹ (λ x. (maximum_power x).0 ≤ greatest_power) after_is (test_within_greatest (component_in h unit component) (cap_of (entry_in h unit)) trial.ending trial.tc trial.count readings (k.plants.power_small unit component)))
         there.0
 
   module _ (m : Minutes) (readings : List ℕ) (z : availability_rest (unit_at b.units unit).enrolment component m.hd m.hmp m.hif m.hed ≡ 0) where
