@@ -23,6 +23,7 @@ sum-cons x xs = sum_by-cons (λ (n : ℕ). n) x xs
 pub sum_zeros : (n : ℕ) → sum (replicate n 0) ≡ 0
 sum_zeros n = sum_by-replicate (λ (x : ℕ). x) n 0 ∙ mul-zero n
 
+-- The library's laws of these ask for a place within the list; here any place will do, since behind the end stands 0.
 pub at_most_sum : (l : List ℕ) (i : ℕ) → get_or l i 0 ≤ sum l
 at_most_sum [] i = zero-le
 at_most_sum (x ∷ l) zero = omega (arith, sum-cons x l)

@@ -11,7 +11,7 @@ pub fn number_at(s: &[u8], at: usize, width: usize) -> u64
 {
     let mut x: u64 = 0;
     for byte in s[at..at + width].iter().rev() {
-        x = x * 256 + *byte as u64;
+        x = x * 256 + u64::from(*byte);
     }
     x
 }

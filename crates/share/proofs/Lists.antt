@@ -7,6 +7,7 @@ use native.Mathlib.Numerals.{add-one}
 use lib.ListN.{length, get_or, set, take}
 use lib.Seq.{take-suc, take-suc-set}
 
+-- as the library's `get_or-map`, but with any value behind the end
 module _ {A B : Type 0} where
   pub get_d_map : (f : A → B) (l : List A) (i : ℕ) (d : A) (e : B) → i < length l → get_or (map f l) i e ≡ f (get_or l i d)
   get_d_map f [] i d e h = absurd (not-suc-le-zero h)

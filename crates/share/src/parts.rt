@@ -48,7 +48,7 @@ pub(crate) fn whole_parts(
     left
 }
 
-// The place of the largest, the lowest of several.
+// The place of the largest, the lowest of several. Over `enumerate` and `skip` it was not proved that the loop's end has passed all.
 pub(crate) fn largest_of(rest: &[u64]) -> usize
     requires { 0 < length rest.now }
     ensures { (result ≡ largest rest.now) × (result < length rest.now) }

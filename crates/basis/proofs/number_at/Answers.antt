@@ -23,8 +23,8 @@ loop-byte-preserved c =
     let y = length-append l.yielded (c.in-Some.byte ∷ []) in
     record {
       places = omega (arith, n, y);
-      small = rw (y, add-one) (digit_more (length l.yielded) l.x c.in-Some.byte.now l.invariant.small (omega arith));
-      value = read_more c.next.new.self.iter.rest.now l.byte-iterator.iter.rest.now c.in-Some.byte.now l.x c.in-Some.ensures.steps ∙ l.invariant.value;
+      small = rw (y, add-one, c.from.ensures) (digit_more (length l.yielded) l.x c.in-Some.byte.now l.invariant.small (omega arith));
+      value = rw c.from.ensures (read_more c.next.new.self.iter.rest.now l.byte-iterator.iter.rest.now c.in-Some.byte.now l.x c.in-Some.ensures.steps ∙ l.invariant.value);
     }
 
 pub returns : goal.returns
