@@ -4,7 +4,7 @@ use Rattle.yearbook_c.proofs.figures.yearbook_run.Goals as goal
 
 pub returns-then-figures-lt-FIGURES_SIZE : goal.returns-then-figures-lt-FIGURES_SIZE
 returns-then-figures-lt-FIGURES_SIZE c =
-    rw c.into.ensures (figures_refused c.args.journal.now c.args.figures.now c.if-figures-lt-FIGURES_SIZE.true)
+    figures_refused c.args.journal.now c.args.figures.now c.if-figures-lt-FIGURES_SIZE.true c.into.ensures
 
 pub returns : goal.returns
 returns c =
