@@ -65,10 +65,10 @@ module _ {s : List ℕ} {t : Tally} {b : Book} (u : Underway s (run_with t b 0))
       (omega arith, omega arith, omega arith)
 
   module _ {t' : Tally} (number : ℕ) (k : t' ≡ tallied t number next) where
-    pub turn_to : {b' : Book} → reply_with number b' ≡ step_of b c (part_of s from next) → Underway s (run_with t' b' 0)
-    turn_to {b'} h =
+    pub turn_to : {b' : Book} {readings : List ℕ} → readings ≡ part_of s from next → reply_with number b' ≡ step_of b c readings → Underway s (run_with t' b' 0)
+    turn_to {b'} e' h =
         let w : turned s (run_with t b 0) c from next ≡ run_with t' b' 0 =
-        ap (λ (q : Reply). answered (run_with t b 0) q next) (sym h) ∙ ap (λ (x : Tally). run_with x b' 0) (sym k) in
+        ap (λ (q : Reply). answered (run_with t b 0) q next) (sym (h ∙ ap (step_of b c) e')) ∙ ap (λ (x : Tally). run_with x b' 0) (sym k) in
         rw w at (goes_on u e)
 
     pub turn_less : length s - t'.place < length s - t.place

@@ -29,6 +29,7 @@ pub(crate) struct Ledger {
 }
 
 impl Ledger {
+    #[tactic(auto, using(crate::proofs::Ready::not_firm), unfolding(state::specs::State::fresh_book))]
     pub(crate) fn new() -> Ledger
         ensures { result.book ≡ fresh_book }
     {
@@ -40,7 +41,7 @@ impl Ledger {
     }
 
     // Any call, with the readings lent to a test.
-    #[tactic(auto, unfolding(book::specs::Step::step_of))]
+    #[tactic(auto, using(crate::proofs::Ready::ready_aside), unfolding(book::specs::Step::step_of, gathering::specs::Units::unit_of, gathering::specs::Units::after_unit, decision::specs::ContractCalls::contract_of, decision::specs::ContractCalls::after_contract))]
     pub(crate) fn take(&mut self, call: Call, readings: &[u8]) -> Result<(), Refusal>
         ensures { reply_with (met result) self.new.book ≡ step_of self.old.book call readings.now }
     {
@@ -78,6 +79,7 @@ impl Ledger {
         Ok(())
     }
 
+    #[tactic(auto, using(state::proofs::Replies::refused_reply, crate::proofs::Ready::close_found), unfolding(close::specs::Close::close_of))]
     fn take_close(&mut self, p: u32) -> Result<(), Refusal>
         ensures { reply_with (met result) self.new.book ≡ close_of self.old.book p }
     {
@@ -86,6 +88,7 @@ impl Ledger {
         Ok(())
     }
 
+    #[tactic(auto, using(crate::proofs::Ready::refused_book), unfolding(decision::specs::Consumers::consumer_of))]
     fn take_consumer(&mut self, consumer: u32, act: ConsumerCall) -> Result<(), Refusal>
         ensures { reply_with (met result) self.new.book ≡ consumer_of self.old.book consumer act }
     {

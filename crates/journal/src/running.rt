@@ -7,6 +7,7 @@ use crate::outcome::{Run, Tally};
 use record::{Read, read_at, readings_of, stop_number};
 
 // The run over a journal, from a fresh book.
+#[tactic(auto, using(crate::proofs::Underway::begins, crate::proofs::Underway::ends, crate::proofs::Underway::turn_fits, crate::proofs::Underway::turn_less))]
 pub fn run(journal: &[u8]) -> Run
     ensures { result ≡ run_of journal.now }
 {

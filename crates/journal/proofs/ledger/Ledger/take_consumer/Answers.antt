@@ -1,12 +1,6 @@
 -- `journal::ledger::Ledger::take_consumer` meets its contract: the real demand of the consumer is kept beside the book. Assumes nothing.
-use Rattle.decision.specs.Consumers.{consumer_of}
-use Rattle.journal.proofs.Ready.{refused_book, ready_stored}
+use Rattle.journal.proofs.Ready.{ready_stored}
 use Rattle.journal.proofs.ledger.Ledger.take_consumer.Goals as goal
-
-pub invariant_of-self : goal.invariant_of-self
-unfolding consumer_of
-invariant_of-self c =
-    record { ready = rw (refused_book _ _ _ _ c.in_err-settle_consumer.ensures) c.args.self.now.ready }
 
 pub invariant_of-self-2 : goal.invariant_of-self-2
 invariant_of-self-2 c =
