@@ -64,7 +64,7 @@ listed_of text room = pick (ltb room (length text)) (filled_with 15 0) (filled_w
 unfoldable pub listed_in : List ℕ → List ℕ → List ℕ
 listed_in text old = pick (ltb (length old) (length text)) old (written old 0 text)
 
--- what putting a listing answers and leaves in the buffer; no listing is longer than the bound
+-- what putting a listing answers and leaves in the buffer, which alone can refuse it; no listing is longer than the bound
 pub record Lists (text old : List ℕ) (r : Filled) (new : List ℕ) : Type 0 where
   pub answer : r ≡ listed_of text (length old)
   pub bytes : new ≡ listed_in text old

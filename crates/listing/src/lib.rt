@@ -14,7 +14,7 @@ pub use output::{MOST_INPUT, put_output};
 use quantities::Refusal;
 use text::Text;
 
-// A text over the front of out: 15 where out is shorter than the text, else the bytes of the text.
+// A text over the front of out, which the caller lends, as C does: 15 where out is shorter than the text, else the bytes of the text.
 #[tactic(auto, unfolding(crate::specs::Listing::listed_of, crate::specs::Listing::listed_in))]
 fn put_whole<const N: usize>(text: &Text<N>, out: &mut [u8]) -> Result<usize, Refusal>
     requires { N ≤ listing_most }

@@ -7,7 +7,7 @@ use journal::run;
 use quantities::Refusal;
 use text::Text;
 
-// The most bytes of input that have a listing.
+// The most bytes of input that have a listing; what takes an input compares its length with this.
 pub const MOST_INPUT: usize = 65_536;
 
 // The line of an input that is too long.

@@ -105,7 +105,7 @@ printed_of b room = printed_by (print_number b room) (text_of b)
 unfoldable pub printed_in : Book → List ℕ → List ℕ
 printed_in b old = pick (eqb (print_number b (length old)) 0) (written old 0 (text_of b)) old
 
--- what printing answers and leaves in the buffer; no text is longer than the bound
+-- what printing answers and leaves in the buffer, where unlike a listing the book's stage can refuse it too; no text is longer than the bound
 pub record Prints (b : Book) (old : List ℕ) (r : Filled) (new : List ℕ) : Type 0 where
   pub answer : r ≡ printed_of b (length old)
   pub bytes_left : new ≡ printed_in b old

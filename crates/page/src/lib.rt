@@ -13,7 +13,7 @@ pub use promises::{always_paged, case_j};
 use quantities::Refusal;
 use state::{Book, Stage, check_stage};
 
-// The printed close of a book over the front of out: its bytes, or 4 where the book is not closed, 15 where out is shorter than the text.
+// The printed close of a book over the front of out, which the caller lends, as C does: its bytes, or 4 where the book is not closed, 15 where out is shorter than the text.
 #[tactic(auto, using(crate::proofs::Answers::text_laws), unfolding(crate::specs::Page::print_number, crate::specs::Page::printed_of, crate::specs::Page::printed_in))]
 pub fn put_page(book: Book, out: &mut [u8]) -> Result<usize, Refusal>
     ensures { Prints book out.old (filled result) out.new }

@@ -93,7 +93,8 @@ impl<const N: usize> Text<N> {
         self.push_bytes(other.as_bytes());
     }
 
-    // The texts of 0, 1, .., one behind the other, where there is room for the longest of each.
+    // The texts of 0, 1, .., one behind the other, where there is room for the longest of each; by their places, since a line is made from several arrays of a book.
+    #[tactic(auto, using(crate::proofs::Joining::joined_none, crate::proofs::Joining::joined_more))]
     pub fn join<F: Fn(usize) -> Text<LONGEST_LINE>>(count: usize, text: F) -> Self
         requires callable { (i : ℕ) → i < count → F.pre text i }
         requires room { count * LONGEST_LINE ≤ N }
