@@ -3,7 +3,7 @@ use Rattle.power.specs.declared.quantity.Kw.{Kw}
 use Rattle.std.specs.Prelude.{Bool, true, false, List, ℕ, ◌-◌, eqb, set, Option, None, Some}
 use Rattle.basis.specs.Choice.{pick}
 use Rattle.power.specs.Quantity.{kw, kwh}
-use Rattle.power.specs.Power.{test_number, test_of}
+use Rattle.power.specs.Power.{fresh_components, test_number, test_of}
 use Rattle.plant.specs.Availability.{minutes, availability_number, availability_of}
 use Rattle.quantities.specs.Flags.{flagged, injection_given, report_held}
 use Rattle.power.specs.declared.component.Component.{Component}
@@ -17,7 +17,7 @@ use Rattle.state.specs.declared.kept.Unit.{Unit}
 use Rattle.state.specs.declared.kept.Book.{Book}
 use Rattle.state.specs.State.{Reply}
 use Rattle.quantities.specs.Refusals.{Decided, decided_by}
-use Rattle.state.specs.State.{fresh_components, unit_at, with_units, ranged, staged, reply_of}
+use Rattle.state.specs.State.{unit_at, with_units, ranged, staged, reply_of}
 
 -- number 5: unit already enrolled
 abbrev pub vacancy : Option Entry → ℕ

@@ -5,6 +5,7 @@ use Rattle.basis.specs.Sums.{sum}
 use Rattle.power.specs.declared.quantity.Kw.{Kw}
 use Rattle.power.specs.declared.quantity.Kwh.{Kwh}
 use Rattle.power.specs.declared.component.Component.{Component}
+use Rattle.power.specs.declared.component.Components.{Components}
 use Rattle.quantities.specs.declared.refusals.Refusal.{Refusal}
 use Rattle.quantities.specs.Refusals.{refusal_number}
 use Rattle.power.specs.Quantity.{kw, kwh, least, over_quarters}
@@ -13,6 +14,10 @@ use Rattle.power.specs.Ranges.{readings_of, test_in_range}
 -- no test, no void test remembered, no availability
 abbrev pub fresh : Component
 fresh = record { result = None; void_trip = false; availability = None }
+
+-- three components with no test and no availability
+abbrev pub fresh_components : Components
+fresh_components = record { set = fresh; generator = fresh; storage = fresh }
 
 -- the power of a result, 0 without one
 abbrev pub power_of : Option Kw → Kw

@@ -1,6 +1,6 @@
 // What is kept for a component of a plant, and what a test, an availability and an offer are made of.
 ghost use Rattle.std.specs.Prelude.{◌≡◌};
-ghost use Rattle.power.specs.Power.{fresh};
+ghost use Rattle.power.specs.Power.{fresh, fresh_components};
 
 use crate::quantity::Kw;
 
@@ -54,5 +54,17 @@ pub fn fresh_component() -> Component
         result: None,
         void_trip: false,
         availability: None,
+    }
+}
+
+// The components of a plant, without test or availability.
+pub fn fresh_components() -> Components
+    ensures { result ≡ fresh_components }
+{
+    let component = fresh_component();
+    Components {
+        set: component,
+        generator: component,
+        storage: component,
     }
 }

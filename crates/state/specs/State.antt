@@ -1,8 +1,7 @@
 -- What the book keeps, a fresh book, and what a reply is ("The book").
 use Rattle.std.specs.Prelude.{List, ℕ, ◌+◌, ◌-◌, ◌*◌, eqb, get_or, take, drop, replicate, Option, None, Some, Result, Ok, Err}
 use Rattle.basis.specs.Choice.{pick}
-use Rattle.power.specs.Power.{fresh}
-use Rattle.power.specs.declared.component.Components.{Components}
+use Rattle.power.specs.Power.{fresh_components}
 use Rattle.quantities.specs.Limits.{units, producers, consumers}
 use Rattle.table.specs.Ranges.{call_number}
 use Rattle.table.specs.declared.calls.Call.{Call}
@@ -17,10 +16,6 @@ use Rattle.state.specs.declared.kept.CloseFigures.{CloseFigures}
 use Rattle.state.specs.declared.kept.Book.{Book}
 use Rattle.quantities.specs.declared.refusals.Refusal.{Refusal}
 use Rattle.quantities.specs.Refusals.{refusal_number}
-
--- components with no test and no availability
-abbrev pub fresh_components : Components
-fresh_components = record { set = fresh; generator = fresh; storage = fresh }
 
 -- a unit that is not enrolled
 abbrev pub fresh_unit : Unit
