@@ -1,6 +1,6 @@
 -- What a listing or a screen asks of a book. A number out of its range has the answer of one that is not there.
 use Rattle.state.specs.declared.kept.Entry.{Entry}
-use Rattle.std.specs.Prelude.{Bool, true, false, List, [], ◌∷◌, ℕ, ◌-◌, leb, eqb, get_or, Option, None, Some}
+use Rattle.std.specs.Prelude.{Bool, false, List, ℕ, ◌-◌, leb, eqb, get_or, Option, None, Some}
 use Rattle.std.specs.List.{list_any}
 use Rattle.basis.specs.Choice.{pick, between}
 use Rattle.quantities.specs.Limits.{units, producers, consumers}
