@@ -1,4 +1,4 @@
-// The firm offer of the eight kinds of plant.
+// The firm offer of the eight kinds of plant: functions over a plant, its hours and its components, by the names that specs/Offer.antt has.
 ghost use Rattle.std.specs.Prelude.{◌≡◌};
 ghost use Rattle.plant.specs.Offer.{thermal, renewable, limited, regulated, stored, complete, together, with_storage, firm_offer};
 

@@ -2,7 +2,7 @@
 use plant::{Component, Components, Hours, Kw, Kwh, Minutes, Plant, Trial};
 use std::io;
 
-// A component of the unit, by its number.
+// A component of the unit, by its number. The program's own: it refuses other numbers, where gathering's takes what the table has tested.
 #[derive(Clone, Copy, Debug, PartialEq, Eq)]
 pub enum Part {
     Set,

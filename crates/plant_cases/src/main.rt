@@ -11,7 +11,7 @@ mod line; // line.rt: what a line asks for
 
 use line::Line;
 use plant::{
-    Component, Components, Kw, efficient_offers, firm_offer, fresh_component, maximum_power,
+    Component, Components, Kw, efficient_offers, firm_offer, fresh_components, maximum_power,
     set_availability, test,
 };
 use quantities::{Refusal, number_met};
@@ -29,11 +29,7 @@ struct Unit {
 impl Unit {
     fn new(cap: Option<Kw>) -> Unit {
         Unit {
-            components: Components {
-                set: fresh_component(),
-                generator: fresh_component(),
-                storage: fresh_component(),
-            },
+            components: fresh_components(),
             cap,
         }
     }
@@ -90,13 +86,13 @@ fn answer<W: Write>(out: &mut W, alloc: Global, unit: &mut Unit, line: Line) -> 
 
 // The chosen year and the efficient offers of units, of which flags and offer stand by turns; 0 and 0 of those that are not there.
 fn show_efficient<W: Write>(out: &mut W, units: &[u32]) -> io::Result<()> {
-    let number_at = |place: usize| units.get(place).copied().unwrap_or(0);
+    let pairs = units.as_chunks::<2>().0;
     let answer = efficient_offers(
-        array::from_fn(|unit| number_at(2 * unit)),
-        array::from_fn(|unit| number_at(2 * unit + 1)),
+        array::from_fn(|unit| pairs.get(unit).map_or(0, |pair| pair[0])),
+        array::from_fn(|unit| pairs.get(unit).map_or(0, |pair| pair[1])),
     );
     write!(out, "{}", answer.year)?;
-    for offer in answer.offers.iter().take(units.len() / 2) {
+    for offer in answer.offers.iter().take(pairs.len()) {
         write!(out, " {offer}")?;
     }
     writeln!(out)

@@ -112,7 +112,8 @@ fn card() -> [u32; 93]
     CARD
 }
 
-// The card's count for TC, 0 for a TC that it does not have, as the function for C answers (plant_c): 0 is no count of readings.
+// The card's count for TC, 0 for a TC that it does not have. No Option: the definition and the theorem CardDecides are over numbers, 0 is no
+// count of readings, and both callers, the function for C and `reached`, would unwrap it.
 #[tactic(auto, using(basis::proofs::Entries::every_at))]
 pub fn least_count(tc: u32) -> u32
     ensures { result ≡ least_count tc }

@@ -14,7 +14,8 @@ pub struct Minutes {
 }
 
 // How a test went: its ending (0 complete, 1 tripped by no doing of the plant, 2 tripped by its doing), its full time TC in quarters, and the
-// count of its readings. The ending is a number: test takes any, and refuses those above 2.
+// count of its readings. The ending is a number: test takes any, and refuses those above 2. The readings are lent beside it, since a Trial is
+// part of a call, which is a value.
 #[derive(Clone, Copy, Debug, PartialEq, Eq)]
 pub struct Trial {
     pub ending: u32,

@@ -51,7 +51,8 @@ fn energy_of(readings: &[[u8; 4]]) -> Kwh
     Kwh(readings.iter().copied().map(u32::from_le_bytes).sum())
 }
 
-// What a test gives, nothing where it is void. trip: the component's last ending-2 test was void, with no result since.
+// What a test gives, nothing where it is void. trip: the component's last ending-2 test was void, with no result since. The ending stays a
+// number: an enum would be made of what test_in_range has tested, for three functions.
 #[tactic(auto, unfolding(crate::specs::Power::measured_of))]
 fn measured_of(trip: bool, trial: Trial, energy: Kwh) -> Option<Kw>
     requires { (least_time ≤ trial.tc) × (trial.tc ≤ greatest_time) }

@@ -3,7 +3,7 @@ ghost use Rattle.std.specs.Prelude.{◌≡◌, ◌≤◌};
 ghost use Rattle.power.specs.Quantity.{quarters_of_hour, least, over_quarters, over_hours};
 
 // A power in kilowatts.
-#[derive(Clone, Copy, Debug, PartialEq, Eq)]
+#[derive(Clone, Copy, Debug, PartialEq, Eq, PartialOrd, Ord)]
 pub struct Kw(pub u32);
 
 // An energy in kilowatt-hours.
@@ -17,7 +17,7 @@ const QUARTERS_OF_HOUR: u64 = 4;
 pub fn least(a: Kw, b: Kw) -> Kw
     ensures { result ≡ least a b }
 {
-    Kw(a.0.min(b.0))
+    a.min(b)
 }
 
 // The power of an energy over an hour or more, counted in quarters.

@@ -1,5 +1,5 @@
-// The fields of a record, written one after the other, and bytes behind them: each at a place of the caller's buffer, since the library has
-// no heap.
+// The fields of a record, written one after the other, and bytes behind them: each at a place, since a record is written into the middle of
+// the caller's output, and `written` says what stays before and behind.
 ghost use Rattle.std.specs.Prelude.{◌≡◌, ◌+◌, ◌≤◌, length};
 ghost use Rattle.basis.specs.Numbers.{written};
 ghost use Rattle.basis.specs.Sums.{sum};

@@ -11,7 +11,8 @@ pub enum Read {
     End,
     Cut,
     Unknown,
-    // The call, the place where its readings start, and the place behind it; without readings both are the same.
+    // The call, the place where its readings start, and the place behind it; without readings both are the same. Places, since a run names
+    // them, and ReadIsPlaced and ReadIsAlone speak of them.
     Record {
         call: Call,
         readings: usize,

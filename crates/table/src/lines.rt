@@ -38,7 +38,7 @@ pub struct Line {
 // The bytes of a reading.
 pub const READING: usize = 4;
 
-// No field.
+// No field: a column of width 0, no Option: its bytes and its range are 0, so that one zip over nine columns serves every record.
 const NONE: Column = Column {
     width: 0,
     least: 0,

@@ -15,7 +15,7 @@ pub struct Enrolling {
 }
 
 // What is asked of a unit, with the fields of its record behind the unit. A test's readings are lent beside the call, four bytes each, low
-// byte first.
+// byte first. Kind, flags and component are numbers, since a record may hold any: check_fields refuses those out of range.
 #[derive(Clone, Copy, Debug, PartialEq, Eq)]
 pub enum UnitCall {
     Enrol(Enrolling),
