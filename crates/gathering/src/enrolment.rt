@@ -3,7 +3,7 @@ ghost use Rattle.std.specs.Prelude.{◌≡◌};
 ghost use Rattle.quantities.specs.Refusals.{decided, decided_by};
 ghost use Rattle.gathering.specs.Units.{vacancy, entry_of, enrolled_unit};
 
-use plant::{Components, Kw, Kwh, Plant, fresh_component};
+use plant::{Kw, Kwh, Plant, fresh_components};
 use quantities::{INJECTION_GIVEN, REPORT_HELD, Refusal, is_flagged};
 use state::{Entry, Unit};
 use table::Enrolling;
@@ -41,14 +41,9 @@ fn entry_of(enrolling: Enrolling) -> Entry
 fn enrolled_unit(entry: Entry) -> Unit
     ensures { result ≡ enrolled_unit entry }
 {
-    let component = fresh_component();
     Unit {
         enrolment: Some(entry),
-        components: Components {
-            set: component,
-            generator: component,
-            storage: component,
-        },
+        components: fresh_components(),
     }
 }
 

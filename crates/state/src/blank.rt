@@ -3,21 +3,16 @@ ghost use Rattle.std.specs.Prelude.{◌≡◌};
 ghost use Rattle.state.specs.State.{fresh_unit, no_figures, fresh_book};
 
 use crate::kept::{Book, CELLS, CloseFigures, Consumer, Declaration, Stage, Unit};
-use power::{Components, Hours, fresh_component};
+use power::{Hours, fresh_components};
 use quantities::{CONSUMERS, PRODUCERS, UNITS};
 
 // A unit that is not enrolled.
 fn fresh_unit() -> Unit
     ensures { result ≡ fresh_unit }
 {
-    let component = fresh_component();
     Unit {
         enrolment: None,
-        components: Components {
-            set: component,
-            generator: component,
-            storage: component,
-        },
+        components: fresh_components(),
     }
 }
 
