@@ -6,8 +6,7 @@ ghost use Rattle.book.specs.Year.{year_number_by, year_of};
 
 use plant::Hours;
 use quantities::Refusal;
-use ranges::check_call;
-use state::{Book, Stage, check_stage};
+use state::{Book, Stage, check_open};
 use table::Call;
 
 // What a year meets: 3, 4, or nothing. Nothing is changed.
@@ -15,8 +14,7 @@ use table::Call;
 pub fn check_year(stage: Stage, hours: Hours) -> Result<(), Refusal>
     ensures { met result ≡ year_number_by stage hours }
 {
-    check_call(Call::Year(hours), b"")?;
-    check_stage(stage, Stage::Blank)
+    check_open(Call::Year(hours), stage, Stage::Blank)
 }
 
 // A year: hours of its stage of greatest thermal requirement, its hours of maximum demand, and those per day.

@@ -9,8 +9,7 @@ ghost use Rattle.close.specs.Close.{adjusted_in, figures_of, close_number_from, 
 use crate::adjusted::{adjusted, is_within, real_demands, total_declared};
 use crate::money::{charges, credits, surpluses};
 use quantities::{CONSUMERS, Refusal};
-use ranges::check_call;
-use state::{Book, CloseFigures, Consumer, Stage, check_stage};
+use state::{Book, CloseFigures, Consumer, Stage, check_open};
 use table::Call;
 
 // The figures of a close at P, once no DFA is above the greatest.
@@ -40,8 +39,7 @@ fn figures(p: u32, dmp: u32, consumers: &[Consumer; CONSUMERS]) -> CloseFigures
 pub fn check_close(stage: Stage, dmp: u32, total: u64, reals: &[u32], p: u32) -> Result<(), Refusal>
     ensures { met result ≡ close_number_from stage dmp total reals.now p }
 {
-    check_call(Call::Close { p }, b"")?;
-    check_stage(stage, Stage::Firm)?;
+    check_open(Call::Close { p }, stage, Stage::Firm)?;
     if is_within(dmp, total, reals) {
         Ok(())
     } else {

@@ -1,33 +1,22 @@
 // The fix: range, stage, the division of DMP, and the book of the firm year.
-ghost use Rattle.std.specs.Prelude.{◌≡◌, []};
+ghost use Rattle.std.specs.Prelude.{◌≡◌};
 ghost use Rattle.quantities.specs.Refusals.{met};
 ghost use Rattle.share.specs.Division.{shares};
-ghost use Rattle.table.specs.declared.calls.Call.TheVariants.{Fix};
-ghost use Rattle.state.specs.declared.kept.Stage.TheVariants.{Gathering};
-ghost use Rattle.state.specs.State.{ranged, staged, replied};
+ghost use Rattle.state.specs.State.{replied};
 ghost use Rattle.fix.specs.Fix.{weights_of, fix_number_by, fixed, fix_of};
 
 use crate::demands::{demands, weights, with_demands};
 use crate::offers::{efficient, limits, offers};
 use quantities::{CONSUMERS, Refusal};
-use ranges::check_call;
-use state::{Book, Consumer, Stage, check_stage};
+use state::{Book, Consumer, Stage, check_open};
 use table::Call;
-
-// Number 3, then 4.
-fn check_range_and_stage(stage: Stage, dmp: u32) -> Result<(), Refusal>
-    ensures { met result ≡ ranged (Fix dmp) [] (staged Gathering stage 0) }
-{
-    check_call(Call::Fix { dmp }, b"")?;
-    check_stage(stage, Stage::Gathering)
-}
 
 // What a fix meets: 3, 4, 13, or nothing. Nothing is changed.
 #[tactic(auto, unfolding(crate::specs::Fix::fix_number_by))]
 pub fn check_fix(stage: Stage, consumers: &[Consumer; CONSUMERS], dmp: u32) -> Result<(), Refusal>
     ensures { met result ≡ fix_number_by stage consumers.now dmp }
 {
-    check_range_and_stage(stage, dmp)?;
+    check_open(Call::Fix { dmp }, stage, Stage::Gathering)?;
     share::check_division(dmp.into(), &weights(consumers), CONSUMERS)
 }
 
@@ -55,7 +44,7 @@ fn fixed(book: Book, dmp: u32, demands: &[u32; CONSUMERS]) -> Book
 pub fn fix(book: Book, dmp: u32) -> Result<Book, Refusal>
     ensures { replied book result ≡ fix_of book dmp }
 {
-    check_range_and_stage(book.stage, dmp)?;
+    check_open(Call::Fix { dmp }, book.stage, Stage::Gathering)?;
     let demands = demands(dmp, &book.consumers)?;
     Ok(fixed(book, dmp, &demands))
 }
