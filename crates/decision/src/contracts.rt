@@ -8,11 +8,11 @@ ghost use Rattle.decision.specs.ContractCalls.{producer_balance, commit_rest, re
 
 use crate::consumers::check_declared;
 use quantities::{CONSUMERS, PRODUCERS, Refusal};
-use state::{CELLS, Declaration, Stage, check_stage};
+use state::{CELLS, Declaration, Stage, check_stage, place_among};
 use table::{Call, ContractCall, check_fields};
 
 // The balance that is to be stored, and its cell.
-#[derive(Clone, Copy)]
+#[derive(Clone, Copy, Debug, PartialEq, Eq)]
 pub struct Balance {
     pub cell: usize,
     pub balance: u32,
@@ -38,11 +38,7 @@ fn row_sum(balances: &[u32; CELLS], from: usize) -> u64
 pub fn producer_balance(balances: &[u32; CELLS], producer: u32) -> u64
     ensures { result ≡ producer_balance balances.now producer }
 {
-    let n = producer as usize;
-    if n < 1 || PRODUCERS < n {
-        return 0;
-    }
-    row_sum(balances, (n - 1) * CONSUMERS)
+    place_among(PRODUCERS, producer).map_or(0, |row| row_sum(balances, row * CONSUMERS))
 }
 
 // A contract: 11, or the pair's balance with the amount on top.
@@ -64,7 +60,7 @@ fn released(balance: u32, q: u32) -> Result<u32, Refusal>
 }
 
 // A call of a contract, decided from the stage, the consumer's declaration, the balances and what producers may commit: a refusal, or the
-// balance that is to be stored.
+// balance that is to be stored. Its parameters come apart, as the match over the call that chose this function has them.
 #[tactic(auto, unfolding(table::specs::Ranges::call_number, table::specs::Ranges::rest_in_range, crate::specs::ContractCalls::contract_answer_of, crate::specs::ContractCalls::contract_number, crate::specs::ContractCalls::contract_rest, crate::specs::ContractCalls::balance_after))]
 pub fn contract_answer(
     producer: u32,

@@ -8,7 +8,7 @@ use quantities::{INJECTION_GIVEN, REPORT_HELD, Refusal, is_flagged};
 use state::{Entry, Unit};
 use table::Enrolling;
 
-// What a unit is enrolled with: PIC if its flag says that it is given. No From, since both types are those of crates below.
+// What a unit is enrolled with: PIC if its flag says that it is given. No From: it would stand in `state`, and the definition `entry_of` stands here.
 fn entry_of(enrolling: Enrolling) -> Entry
     ensures { result ≡ entry_of enrolling.producer enrolling.kind enrolling.flags enrolling.pic enrolling.ppr enrolling.e1 enrolling.e2 enrolling.cap }
 {

@@ -1,8 +1,7 @@
 // What a listing or a screen asks of a book. A number out of its range has the answer of one that is not there.
 #![tactic(auto)]
 
-ghost use Rattle.std.specs.Prelude.{◌≡◌, ◌-◌, ◌<◌, Some, None};
-ghost use Rattle.basis.specs.Choice.{pick, between};
+ghost use Rattle.std.specs.Prelude.{◌≡◌};
 ghost use Rattle.state.specs.State.{stage_number};
 ghost use Rattle.questions.specs.Questions.{has_unit, signed_of};
 ghost use Rattle.questions.specs.Questions.{unit_offers_of, producer_totals_of, declaration_of, adjustment_of, close_totals_of};
@@ -11,51 +10,43 @@ ghost use Rattle.questions.specs.Values.{unit_figures, producer_figures, declara
 
 use decision::producer_balance;
 use quantities::{CONSUMERS, PRODUCERS, UNITS};
-use state::{Book, Declaration, Stage, Unit};
+use state::{Book, Declaration, Stage, Unit, place_among};
 
 // A unit's firm and efficient offer, kW, 0 before the fix.
-#[derive(Clone, Copy)]
+#[derive(Clone, Copy, Debug, PartialEq, Eq)]
 pub struct Offers {
     pub firm: u32,
     pub efficient: u32,
 }
 
 // What a producer may commit, 0 before the fix, and the sum of its balances, kW.
-#[derive(Clone, Copy)]
+#[derive(Clone, Copy, Debug, PartialEq, Eq)]
 pub struct Totals {
     pub limit: u32,
     pub committed: u64,
 }
 
-// A number with its sign.
-#[derive(Clone, Copy)]
+// A number with its sign. No i64: the definitions count in naturals, and its clause would have the same two cases.
+#[derive(Clone, Copy, Debug, PartialEq, Eq)]
 pub enum Signed {
     Plus(u64),
     Minus(u64),
 }
 
 // A consumer's ADF in kW, its charge and its credit in cents.
-#[derive(Clone, Copy)]
+#[derive(Clone, Copy, Debug, PartialEq, Eq)]
 pub struct Adjustment {
     pub adf: Signed,
     pub charge: u64,
     pub credit: u64,
 }
 
-// The sums of charges and of credits, and what is distributed to nobody, cents.
-#[derive(Clone, Copy)]
+// The sums of charges and of credits, and what is distributed to nobody, cents: the totals of the close without its arrays.
+#[derive(Clone, Copy, Debug, PartialEq, Eq)]
 pub struct CloseTotals {
     pub charged: u64,
     pub credited: u64,
     pub undistributed: u64,
-}
-
-// The place of a number from 1 to the count, if it is one.
-fn place_among(count: usize, number: u32) -> Option<usize>
-    ensures { result ≡ pick (between 1 count number) (Some (number - 1)) None }
-{
-    let place = (number as usize).checked_sub(1)?;
-    (place < count).then_some(place)
 }
 
 // The stage of a book.
@@ -77,7 +68,7 @@ pub fn unit_offers(book: &Book, unit: u32) -> Option<Offers>
     })
 }
 
-// One of the units is enrolled by the producer.
+// One of the units is enrolled by the producer. Not that of `letters`, where a unit that is not enrolled counts as producer 0's.
 fn has_unit(producer: u32, units: &[Unit; UNITS]) -> bool
     ensures { result ≡ has_unit producer units.now }
 {
@@ -112,9 +103,9 @@ fn signed_of(a: u32, b: u32) -> Signed
     ensures { result ≡ signed_of a b }
 {
     if b <= a {
-        Signed::Plus((a - b) as u64)
+        Signed::Plus((a - b).into())
     } else {
-        Signed::Minus((b - a) as u64)
+        Signed::Minus((b - a).into())
     }
 }
 

@@ -8,5 +8,5 @@ mod stages; // stages.rt: the stages by their numbers, and the stage that a call
 
 pub use blank::fresh;
 pub use kept::{Book, CELLS, CloseFigures, Consumer, Declaration, Entry, Figures, Stage, Unit};
-pub use places::{consumer_place, unit_place};
+pub use places::{consumer_place, place_among, unit_place};
 pub use stages::{check_open, check_stage};
