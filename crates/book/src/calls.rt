@@ -1,4 +1,5 @@
-// A function for each call, and one for any. A refused call leaves its book as it was; an accepted one hands back the book after it.
+// A function for each call, and one for any. A refused call leaves its book as it was; an accepted one hands back the book after it. A buyer
+// gives plain numbers, and lends the readings.
 ghost use Rattle.std.specs.Prelude.{◌≡◌, []};
 ghost use Rattle.table.specs.declared.units.UnitCall.TheVariants.{Enrol, Test, Availability};
 ghost use Rattle.table.specs.declared.consumers.ConsumerCall.TheVariants.{Declare, Meter};

@@ -52,7 +52,7 @@ fn added(unit: &Unit, producer: u32, efficient: u32) -> u32
     if owner == producer { efficient } else { 0 }
 }
 
-// What each unit adds to a producer's limit.
+// What each unit adds to a producer's limit. Units and offers are two arrays, as the book keeps them.
 fn additions(units: &[Unit; UNITS], efficient: &[u32; UNITS], producer: u32) -> [u64; UNITS]
     ensures each { result ≡ tab (added_at units.now efficient.now producer) unit_count }
     ensures fits { sum result < 2 ^ 64 }

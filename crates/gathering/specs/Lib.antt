@@ -1,3 +1,3 @@
 -- The calls of a unit, in the order of document 01.
-pub mod Units
 pub mod Lending
+pub mod Units

@@ -18,6 +18,7 @@ use Rattle.state.specs.declared.kept.Book.{Book}
 use Rattle.state.specs.State.{Reply}
 use Rattle.quantities.specs.Refusals.{Decided, decided_by}
 use Rattle.state.specs.State.{unit_at, with_units, ranged, staged, reply_of}
+use Rattle.gathering.specs.Lending.{component_in}
 
 -- number 5: unit already enrolled
 abbrev pub vacancy : Option Entry → ℕ
@@ -54,7 +55,7 @@ abbrev pub has_availability : ℕ → ℕ → Bool
 has_availability kind component = pick (eqb kind 8) (pick (eqb component 0) false true) (eqb component 0)
 
 abbrev pub component_of : Unit → ℕ → Component
-component_of u component = pick (eqb component 0) u.components.set (pick (eqb component 1) u.components.generator u.components.storage)
+component_of u component = component_in u.components component
 
 abbrev pub with_component : Unit → ℕ → Component → Unit
 with_component u component x =

@@ -14,7 +14,8 @@ use plant::{Component, Components, Minutes, Trial};
 use quantities::Refusal;
 use state::{Stage, Unit, check_stage};
 
-// The kind that has storage, and all three components. Kinds and components are the numbers of their fields.
+// The kind that has storage, and all three components. Kinds and components are numbers, as the call holds them: a record may hold any, and
+// its range is tested before.
 const WITH_STORAGE: u32 = 8;
 
 // Kind 8 is tested in all three components, others in component 0.
@@ -82,7 +83,7 @@ pub(crate) fn tested(
     Ok(unit)
 }
 
-// An availability of a unit.
+// An availability of a unit. It asks for enrolment and component as a test does: one function of both would state a clause of its closure.
 #[tactic(auto, unfolding(plant::specs::Availability::availability_of, crate::specs::Units::availability_rest, crate::specs::Units::available_unit))]
 pub(crate) fn available(mut unit: Unit, component: u32, minutes: Minutes) -> Result<Unit, Refusal>
     requires { component ≤ greatest_component }

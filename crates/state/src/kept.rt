@@ -6,8 +6,8 @@ use plant::Plant;
 use power::{Components, Hours, Kw};
 use quantities::{CONSUMERS, PRODUCERS, UNITS};
 
-// A cell for each pair of a producer and a consumer, a row for each producer, one behind the other: the book has arrays of figures, and one
-// index stores into it.
+// A cell for each pair of a producer and a consumer, a row for each producer, one behind the other: one flat list, as `cell_of` and `row_of`
+// of specs/ have it, into which one index stores.
 pub const CELLS: usize = PRODUCERS * CONSUMERS;
 
 // The four stages, each leading to the next.
@@ -43,7 +43,7 @@ pub struct Figures {
     pub df: u32,
 }
 
-// An enum of its own in the place of an Option: undeclared is what a consumer is called, and no figure that is missing.
+// Document 01 names this form, "an enum, undeclared or declared with figures, inside the consumer's struct": so it is no Option.
 #[derive(Clone, Copy, Debug, PartialEq, Eq)]
 pub enum Declaration {
     Undeclared,
@@ -75,7 +75,7 @@ pub struct Consumer {
 }
 
 // The figures of the close: each consumer's DFA in kW, charge and credit in cents, their sums, and what is distributed to nobody. Arrays
-// of figures, beside each other: a division takes one whole.
+// of figures, beside each other: a division takes one whole. The sums stand among them, since theorems name them there.
 #[derive(Clone, Copy, Debug, PartialEq, Eq)]
 pub struct CloseFigures {
     pub adjusted: [u32; CONSUMERS],
