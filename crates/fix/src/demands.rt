@@ -33,7 +33,7 @@ pub(crate) fn demands(
     ensures number { met result ≡ fix_rest dmp consumers.now }
     ensures shared { IfOk result (λ demands. demands ≡ shares dmp (weights_of consumers.now)) }
 {
-    // A share of DMP is at most DMP, which fits 32 bits.
+    // A share of DMP is at most DMP, which fits 32 bits. By places, since that is known of the amount at each place.
     let amounts = among_consumers(dmp.into(), &weights(consumers))?;
     Ok(array::from_fn(|i| amounts[i] as u32))
 }
