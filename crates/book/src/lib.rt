@@ -7,5 +7,8 @@ mod settlement; // settlement.rt: what is decided of a call, settled in the book
 
 pub use begun::check_year;
 pub use calls::step;
+pub use plant::{Hours, Minutes, Trial};
+pub use quantities::Refusal;
 pub use settlement::{settle_consumer, settle_contract, settle_unit};
 pub use state::{Book, fresh};
+pub use table::{Call, ConsumerCall, ContractCall, Enrolling, UnitCall};

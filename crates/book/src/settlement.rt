@@ -35,7 +35,7 @@ pub fn settle_consumer(book: &mut Book, consumer: u32, act: ConsumerCall) -> Res
     Ok(())
 }
 
-// A call of a contract.
+// A call of a contract. A buyer passes plain numbers.
 pub fn settle_contract(
     book: &mut Book,
     producer: u32,
@@ -58,7 +58,8 @@ pub fn settle_contract(
     Ok(())
 }
 
-// The book after a call of a unit.
+// The book after a call of a unit, and below of a consumer and of a contract.
+// Two lines each: one function over a closure would carry the closure's clause.
 #[tactic(auto, using(state::proofs::Replies::refused_reply), unfolding(gathering::specs::Units::unit_of))]
 pub(crate) fn of_unit(
     mut book: Book,

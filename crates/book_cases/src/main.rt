@@ -14,7 +14,7 @@ use std::io::{self, BufWriter, Read as _, Write};
 // The bytes of a journal, at most.
 const MOST: u64 = 65_536;
 
-// A number with a minus sign where it is below 0.
+// A number with a minus sign where it is below 0. The library prints nothing, and Display of another crate's type needs a type of one's own.
 #[derive(Clone, Copy)]
 struct Shown(Signed);
 

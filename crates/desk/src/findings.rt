@@ -20,7 +20,8 @@ pub(crate) const LONGEST_UNCLOSED: usize = 43 + LONGEST_SAID;
 
 pub const LONGEST_FINDINGS: usize = LONGEST_FOUND + LONGEST_UNCLOSED;
 
-// What the program prints of an input, and what it finds wrong with it. It has no equality, as its texts have none.
+// What the program prints of an input, and what it finds wrong with it. It has no equality, as its texts have none, and is
+// moved and not copied, since the texts lie in it whole.
 #[derive(Drop)]
 pub struct Told {
     pub output: Text<LONGEST>,
@@ -68,7 +69,8 @@ pub(crate) fn found(run: &Run) -> Text<LONGEST_FOUND>
     found
 }
 
-// What is printed and found where the input is too long.
+// What is printed and found where the input is too long. The three that tell of an input each ask this first: a common function over a
+// closure would carry two clauses of each closure, for one `if`.
 pub(crate) fn unread() -> Told
     ensures output { result.output ≡ too_long }
     ensures findings { result.findings ≡ nothing_read }

@@ -7,7 +7,7 @@ use crate::findings::{LONGEST_UNCLOSED, Told, found, unread};
 use journal::run;
 use listing::{LONGEST, MOST_INPUT};
 use page::put_page;
-use quantities::{Refusal, number_met};
+use quantities::Refusal;
 use text::Text;
 use words::said;
 

@@ -9,12 +9,13 @@ use record::{Call, Read, read_at, readings_of, stop_number};
 use text::{LONGEST_DECIMAL, Text, decimal};
 use words::{LONGEST_CALL, LONGEST_SAID, call_text, said};
 
-// The most bytes of a line, whatever the record: a place, a call, and a number in words, with three bytes between.
+// The room for a line, whatever the record: a place, a call, a number in words, and 16 bytes for what stands between or ends the journal.
 pub const LONGEST_REPLY: usize = LONGEST_DECIMAL + LONGEST_CALL + LONGEST_SAID + 16;
 
 // The replies that are still to be told: at most so many lines, from a place on, with the book that the calls before it have made.
 #[derive(Clone, Copy, Debug, PartialEq, Eq)]
 pub struct Rest {
+    // A count, as `rest_of` has it: 0 behind a stop and of an input that is too long, which no place tells.
     pub left: usize,
     pub place: usize,
     pub book: Book,
@@ -68,6 +69,7 @@ fn end_line(place: usize, stop: u32) -> Text<LONGEST_REPLY>
 }
 
 // The next line of the replies, if one is left, behind which the rest stands then.
+// No Iterator: `while let` is as plain, `Rest` stays without a lifetime, and `Tells` speaks of the rest before and behind.
 pub fn next_reply(journal: &[u8], rest: &mut Rest) -> Option<Text<LONGEST_REPLY>>
     ensures { Tells journal.now rest.old result rest.new }
 {

@@ -1,8 +1,8 @@
 -- The run's book is the book after the list of the calls that it read.
-use mathlib.Core.Path.{◌≡◌, refl, sym, ap, ◌∙◌}
+use mathlib.Core.Path.{◌≡◌, refl, ap}
 use mathlib.Core.List.{List, [], ◌∷◌, map}
 use Prim.Native.Nat.{ℕ, zero, suc}
-use lib.ListN.{length, length-map}
+use lib.ListN.{length}
 use Rattle.table.specs.declared.calls.Call.{Call}
 use Rattle.record.specs.declared.reading.Read.{Read}
 use Rattle.record.specs.declared.reading.Read.TheVariants.{End, Cut, Unknown, Record}
@@ -12,7 +12,7 @@ use Rattle.state.specs.State.{fresh_book}
 use Rattle.book.specs.Lists.{Event, reply_to, after_all}
 use Rattle.journal.specs.declared.outcome.Run.{Run}
 use Rattle.journal.specs.Run.{started, answered, stopped, run_from, run_of}
-use Rattle.journal.specs.Calls.{Recorded, records_from, calls_from, places_from, calls_of, record_places, numbers_after}
+use Rattle.journal.specs.Calls.{Recorded, records_from, calls_from, places_from, calls_of, numbers_after}
 use Rattle.journal.proofs.Turns.{turned, run_end, run_cut, run_unknown, run_record}
 
 abbrev pub event : List ℕ → Call → ℕ → ℕ → Event
@@ -87,17 +87,7 @@ unfolding after_all calls_of run_of started
 run_book s =
     run_reads (λ es r q. after_all r.book es ≡ q.book) (λ r. refl) (λ r number. refl) (λ r q e next es h. h) (suc (length s)) s started
 
--- as many places, and as many numbers, as calls
-pub length_places_from : (n : ℕ) (s : List ℕ) (at : ℕ) → length (places_from n s at) ≡ length (calls_from n s at)
-unfolding places_from calls_from
-length_places_from n s at =
-    let rs = records_from n s at in
-    length-map rs (λ (r : Recorded). r.place) ∙ sym (length-map rs (λ (r : Recorded). r.event))
-
-pub length_places : (s : List ℕ) → length (record_places s) ≡ length (calls_of s)
-unfolding record_places calls_of
-length_places s = length_places_from (suc (length s)) s 0
-
+-- as many numbers as calls
 pub length-numbers : (b : Book) (es : List Event) → length (numbers_after b es) ≡ length es
 unfolding numbers_after
 length-numbers b [] = refl

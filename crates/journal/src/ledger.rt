@@ -23,6 +23,7 @@ use table::{Call, ConsumerCall};
 #[derive(Drop)]
 pub(crate) struct Ledger {
     pub(crate) book: Book,
+    // Zeros before the fix: the stage tells it, so no Option is needed.
     pub(crate) total: u64,
     pub(crate) reals: [u32; CONSUMERS],
     ghost ready: { Ready book total reals },
@@ -59,6 +60,7 @@ impl Ledger {
         }
     }
 
+    // A year, a fix and a close: each differs in what is asked and in what is kept beside the book.
     #[tactic(auto, using(state::proofs::Replies::refused_reply), unfolding(book::specs::Year::year_of))]
     fn take_year(&mut self, hours: Hours) -> Result<(), Refusal>
         ensures { reply_with (met result) self.new.book ≡ year_of self.old.book hours }

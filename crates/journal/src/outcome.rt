@@ -1,16 +1,16 @@
 // What the run returns, and what it counts.
 ghost use Rattle.std.specs.Prelude.{◌≡◌, ◌+◌, ◌<◌, ◌^◌};
 ghost use Rattle.quantities.specs.Refusals.{met};
-ghost use Rattle.journal.specs.Run.{refused_at};
 ghost use Rattle.journal.specs.Tally.{no_tally, tallied, run_with};
 
-use quantities::{Refusal, number_met};
+use quantities::Refusal;
 use state::Book;
 
 // The place of a record that was refused, and the number that it met.
 #[derive(Clone, Copy, Debug, PartialEq, Eq)]
 pub struct Refused {
     pub place: usize,
+    // The number and not the Refusal: C is told it.
     pub number: u32,
 }
 
@@ -21,7 +21,8 @@ pub struct Run {
     pub read: usize,
     pub accepted: usize,
     pub refused: usize,
-    // The number of the stop and its place, 0 and the journal's length without one. A number, as the listing and the function for C tell it.
+    // The number of the stop and its place, 0 and the journal's length without one. A number, as the
+    // run in words and the function for C tell it.
     pub stop: u32,
     pub place: usize,
     // The first record that was refused, if any was.

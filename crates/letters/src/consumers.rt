@@ -32,6 +32,7 @@ pub fn demand_lines(consumers: &[Consumer; CONSUMERS]) -> Text<LONGEST_BY_CONSUM
 }
 
 // The line S of a consumer, none where it is not declared; its figures come one by one, as the book keeps each in an array of its own.
+// This line and that of a page share only these two amounts: a struct of the four figures would be taken apart at once.
 #[tactic(auto, unfolding(crate::specs::Letters::settlement_line))]
 fn settlement_line(
     number: usize,

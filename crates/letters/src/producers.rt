@@ -12,6 +12,7 @@ use text::{LONGEST_LINE, Text, line};
 pub const LONGEST_BY_PRODUCER: usize = PRODUCERS * LONGEST_LINE;
 
 // The line P of a producer, none where it has no unit.
+// The flag stands beside the figures, as in the definition: the book has a limit for every producer.
 #[tactic(auto, unfolding(crate::specs::Letters::producer_line))]
 fn producer_line(number: usize, owner: bool, limit: u32, balance: u64) -> Text<LONGEST_LINE>
     ensures { result ≡ producer_line number owner limit balance }
@@ -26,7 +27,7 @@ fn producer_line(number: usize, owner: bool, limit: u32, balance: u64) -> Text<L
     }
 }
 
-// The lines P of all producers.
+// The lines P of all producers. By parts of the book, as the definitions are.
 #[tactic(auto, unfolding(crate::specs::Letters::producer_lines))]
 pub fn producer_lines(
     units: &[Unit; UNITS],

@@ -32,7 +32,7 @@ fn unit_line(
     }
 }
 
-// The lines U of all units.
+// The lines U of all units. By parts of the book, as the definitions are.
 #[tactic(auto, unfolding(crate::specs::Letters::unit_lines))]
 pub fn unit_lines(
     units: &[Unit; UNITS],
@@ -48,6 +48,7 @@ pub fn unit_lines(
 }
 
 // Whether a producer has a unit; one that is not enrolled is of producer 0, which no line has.
+// Not that of `questions`: here a unit that is not enrolled counts as producer 0's, there as nobody's.
 #[tactic(auto, unfolding(crate::specs::Letters::owners_of))]
 pub(crate) fn has_unit(units: &[Unit; UNITS], producer: u32) -> bool
     ensures { result ≡ owns (owners_of units.now) producer }

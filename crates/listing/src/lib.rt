@@ -11,7 +11,7 @@ ghost use Rattle.listing.specs.Listing.{listing_of, listing_most, Lists};
 use journal::Run;
 pub use lines::{LONGEST, listing};
 pub use output::{MOST_INPUT, put_output};
-use quantities::Refusal;
+pub use quantities::Refusal;
 use text::Text;
 
 // A text over the front of out, which the caller lends, as C does: 15 where out is shorter than the text, else the bytes of the text.

@@ -8,6 +8,7 @@ use quantities::Refusal;
 use text::Text;
 
 // The most bytes of input that have a listing; what takes an input compares its length with this.
+// A buyer gives any bytes: a type of shorter inputs would be made and asked in the same line.
 pub const MOST_INPUT: usize = 65_536;
 
 // The line of an input that is too long.

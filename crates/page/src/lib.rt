@@ -10,7 +10,7 @@ ghost use Rattle.page.specs.Page.{Prints};
 
 use pages::{count_declared, put_lines, size_of};
 pub use promises::{always_paged, case_j};
-use quantities::Refusal;
+pub use quantities::Refusal;
 use state::{Book, Stage, check_stage};
 
 // The printed close of a book over the front of out, which the caller lends, as C does: its bytes, or 4 where the book is not closed, 15 where out is shorter than the text.

@@ -21,6 +21,7 @@ pub(crate) fn heading(page: usize) -> Text<LINE>
 }
 
 // The line of a declared consumer; its figures come one by one, as the book keeps each in an array of its own.
+// This line and the line S share only these two amounts: a struct of the four figures would be taken apart at once.
 #[tactic(auto, unfolding(crate::specs::Page::line_with))]
 pub(crate) fn line(number: usize, df: u32, dfa: u32, charge: u64, credit: u64) -> Text<LINE>
     ensures { result ≡ line_of number df dfa charge credit }

@@ -15,7 +15,7 @@ pub const LINE_AMOUNTS: usize = 3;
 
 pub const LONGEST_LINE: usize = LINE_AMOUNTS * (1 + LONGEST_AMOUNT) + 2;
 
-// An amount with its sign: plus less minus.
+// An amount with its sign: plus less minus. Each part may need all 64 bits, so that no i64 holds the difference.
 #[derive(Clone, Copy, Debug, PartialEq, Eq)]
 pub struct Amount {
     pub plus: u64,
@@ -67,7 +67,7 @@ impl Amount {
     }
 }
 
-// The decimal digits of a number.
+// The decimal digits of a number. Not the Display of u64, whose law ends at 64 digits, as the definition's does not.
 #[tactic(auto, using(crate::proofs::Digits::decimal_digit, crate::proofs::Digits::decimal_more, crate::proofs::Digits::digits_before_last))]
 pub fn decimal(x: u64) -> Text<LONGEST_DECIMAL>
     ensures { result ≡ decimal x }

@@ -11,6 +11,7 @@ pub use amounts::{Amount, LONGEST_AMOUNT, LONGEST_DECIMAL, LONGEST_LINE, decimal
 use std::marker::Model;
 
 // A text of at most N bytes, which lie in the value itself. It has no derived equality, which would compare the bytes behind the text too.
+// No String, since a library has no heap; no write!, which would answer a Result for want of room that the type excludes.
 #[derive(Drop)]
 pub struct Text<const N: usize> {
     bytes: [u8; N],
@@ -93,7 +94,8 @@ impl<const N: usize> Text<N> {
         self.push_bytes(other.as_bytes());
     }
 
-    // The texts of 0, 1, .., one behind the other, where there is room for the longest of each; by their places, since a line is made from several arrays of a book.
+    // The texts of 0, 1, .., one behind the other, where there is room for the longest of each.
+    // By index: what is joined lies in arrays beside each other, and the clause speaks of the text at each index.
     #[tactic(auto, using(crate::proofs::Joining::joined_none, crate::proofs::Joining::joined_more))]
     pub fn join<F: Fn(usize) -> Text<LONGEST_LINE>>(count: usize, text: F) -> Self
         requires callable { (i : ℕ) → i < count → F.pre text i }

@@ -14,13 +14,14 @@ pub const LONGEST_SAID: usize = LONGEST_DECIMAL + LONGEST_WORDS + 2;
 pub const LONGEST_AT_PLACE: usize = LONGEST_DECIMAL + 2 + LONGEST_SAID;
 
 // A number in words: what it means, and when it is met, in document 01's words.
-#[derive(Clone, Copy)]
+#[derive(Clone, Copy, Debug, PartialEq, Eq)]
 struct Words {
     meaning: &'static str,
     condition: &'static str,
 }
 
 // The words of a number; none where there is no such number.
+// By number: 0 and the stops 1 and 2 have words as the refusals have, and what a run tells is a number already.
 #[tactic(auto, unfolding(crate::specs::Numbers::meaning, crate::specs::Numbers::meanings, crate::specs::Conditions::condition, crate::specs::Conditions::conditions))]
 fn words_of(number: u32) -> Words
     ensures meaning { result.meaning.now ≡ meaning number }

@@ -50,7 +50,7 @@ impl fmt::Display for Words {
 }
 
 impl Failure<'_> {
-    // Says what failed, and why; nothing where the reader has left.
+    // Says what failed, and why; nothing where the reader has left. No Display: a name is bytes and need be no UTF-8.
     pub fn say<W: Write>(&self, out: &mut W) -> io::Result<()> {
         match self {
             Failure::ReaderLeft => Ok(()),

@@ -34,6 +34,7 @@ fn print_replies(rt: &HostRuntime, input: &[u8]) -> Result<(), Failure<'static>>
 }
 
 // What is printed of an input, and what is found wrong with it; where the replies are asked for, the listing.
+// The replies are printed line by line; their findings are the listing's.
 fn told(asked: Asked, input: &[u8]) -> Told {
     match asked {
         Asked::Listing | Asked::Replies => told_listing(input),

@@ -12,7 +12,8 @@ const FIGURES: usize = 8;
 const FIGURES_SIZE: usize = 8 * FIGURES;
 
 // How many refused records are named, the place and the number of the one that is; 0 where none is.
-#[derive(Clone, Copy)]
+// C is told of an Option in three figures.
+#[derive(Clone, Copy, Debug, PartialEq, Eq)]
 pub struct Named {
     pub count: u64,
     pub place: u64,

@@ -1,2 +1,0 @@
--- Laws of replies.
-pub mod Refused
