@@ -1,10 +1,10 @@
-// Numbers in a buffer of bytes, low byte first, read and written at any place and any width up to eight bytes.
+// Numbers in a buffer of bytes, low byte first, read at any place and any width up to eight bytes, written at any place and width.
 #![tactic(auto)]
 
 ghost use Rattle.std.specs.Prelude.{◌≡◌, ◌+◌, ◌*◌, ◌≤◌, ◌<◌, ◌^◌, length};
 ghost use Rattle.basis.specs.Numbers.{number_at, bytes_of, all_bytes_of, written};
 
-// The number of `width` bytes of s from `at` on.
+// The number of `width` bytes of s from `at` on. Byte by byte, since from_le_bytes has one width.
 pub fn number_at(s: &[u8], at: usize, width: usize) -> u64
     requires { (width ≤ 8) × (at + width ≤ length s.now) }
     ensures { result ≡ number_at width s.now at }
@@ -16,7 +16,8 @@ pub fn number_at(s: &[u8], at: usize, width: usize) -> u64
     x
 }
 
-// The low bytes of x, `width` of them, over those of out from `at` on.
+// The low bytes of x, `width` of them, over those of out from `at` on. Byte by byte, since to_le_bytes has one width and this takes
+// more than eight bytes; at a place, since a record is written into the middle of the caller's output.
 pub fn put_number(out: &mut [u8], at: usize, width: usize, x: u64)
     requires { at + width ≤ length out.old }
     ensures { out.new ≡ written out.old at (bytes_of width x) }

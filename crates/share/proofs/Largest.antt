@@ -1,15 +1,15 @@
 -- The first place of the greatest element, told apart by what it is.
-use mathlib.Core.Path.{◌≡◌}
-use mathlib.Core.Bool.{Bool}
+use mathlib.Core.Path.{◌≡◌, refl}
 use mathlib.Core.List.{List, [], ◌∷◌}
 use Prim.Native.Nat.{ℕ, zero, suc, ◌≤◌, ◌<◌, zero-le}
 use native.Mathlib.Nat.{not-suc-le-zero}
 use native.Mathlib.Omega.{arith}
-use borrow.Author.Tests.{eqb-true, eqb-false}
-use lib.Dec.{eqb}
+use borrow.Author.Tests.{eqb-true, eqb-false, lt-ltb}
+use lib.Dec.{eqb, ltb}
 use lib.ListN.{length, get_or}
 use mathlib.Core.Logic.{⊎_elim}
-use Rattle.std.specs.List.{IsFirstMaxByKey}
+use Rattle.std.specs.Prelude.{Some, None, Bool, cond, max, fold, unwrap_or}
+use Rattle.std.specs.List.{reduce}
 use Rattle.std.proofs.lemmas.Bool.{cases_lt}
 use Rattle.std.proofs.lemmas.List.Sums.{fails_before_first, passes_at_first}
 use Rattle.basis.specs.Sums.{greatest}
@@ -62,9 +62,17 @@ largest_is r h =
       first = λ j q. omega (arith, p.1, smaller r j q);
     }
 
--- there is only one such place: of a list whose elements are all passed
-pub first_largest : (r : List ℕ) (i k : ℕ) → i ≡ length r → IsFirstMaxByKey (λ x. x) r i k → k ≡ largest r
-first_largest r i k e h =
-    let o = largest_is r (omega (arith, h.0)) in
-    let a : ¬ (k < largest r) = λ p. absurd (omega (arith, o.first k p, h.1 (largest r) 0 (omega (arith, o.within)))) in
-    let b : ¬ (largest r < k) = λ p. absurd (omega (arith, h.2 (largest r) 0 p, o.most k)) in omega arith
+-- the greatest of all, found from the front on
+fold_max : (a : ℕ) (r : List ℕ) → fold max a r ≡ max a (greatest r)
+unfolding greatest
+fold_max a [] = omega arith
+fold_max a (x ∷ r) = omega (arith, fold_max (max a x) r)
+
+pub greatest_found : (r : List ℕ) → unwrap_or (reduce max r) 0 ≡ greatest r
+unfolding greatest
+greatest_found [] = refl
+greatest_found (x ∷ r) = fold_max x r
+
+-- .. and its first place
+pub first_found : (r : List ℕ) (d : ℕ) → 0 < length r → unwrap_or (cond (ltb (largest r) (length r)) (Some (largest r)) None) d ≡ largest r
+first_found r d h = rw (lt-ltb (largest r) (length r) (largest_is r h).within) refl

@@ -12,6 +12,7 @@ pub(crate) fn read_weights(buffer: &[u8], weights: &mut [u64])
     requires { 4 * length weights.old ≤ length buffer.now }
     ensures { weights.new ≡ numbers_of 4 (length weights.old) buffer.now }
 {
+    // Over `zip`, iter_mut and as_chunks it was not proved: the loop's invariant then has no weights to speak of.
     for (i, weight) in weights.iter_mut().enumerate() {
         *weight = number_at(buffer, 4 * i, 4);
     }
@@ -35,7 +36,8 @@ pub(crate) fn divide_buffer(
     Ok(())
 }
 
-// Divides a total by weights of four bytes each into amounts of eight bytes each, low byte first.
+// Divides a total by weights of four bytes each into amounts of eight bytes each, low byte first. The numbers and the parts are
+// arrays of the most weights there are, since the library has no heap.
 pub fn share_divide(total: u64, weights: &[u8], amounts: &mut [u8]) -> Result<(), Refusal>
     ensures { Shares total weights.now amounts.old (met result) amounts.new }
 {

@@ -33,7 +33,7 @@ pub fn check_division(total: u64, weights: &[u64], room: usize) -> Result<(), Re
     Ok(())
 }
 
-// Divides the total by the weights into the front of the amounts.
+// Divides the total by the weights into the front of the amounts. The rest is an array of the most weights, since the library has no heap.
 pub fn divide(total: u64, weights: &[u64], amounts: &mut [u64]) -> Result<(), Refusal>
     ensures { Divides total weights.now amounts.old (met result) amounts.new }
 {

@@ -21,7 +21,8 @@ pub(crate) fn sum_of(weights: &[u64]) -> u64
     weights.iter().sum()
 }
 
-// The whole parts into the amounts, what they leave of each product into the rest; answers the units left over.
+// The whole parts into the amounts, what they leave of each product into the rest; answers the units left over. Two slices, no slice
+// of pairs: the amounts are the caller's, the rest is room to work in of fixed size.
 #[tactic(auto, using(crate::proofs::Accepted::product_fits, crate::proofs::Quotients::turn), unfolding(crate::specs::Division::whole_parts, crate::specs::Division::remainders))]
 pub(crate) fn whole_parts(
     total: u64,
@@ -37,6 +38,7 @@ pub(crate) fn whole_parts(
     ensures amounts_after { amounts.new ≡ whole_parts total whole weights.now }
     ensures rest_after { rest.new ≡ remainders total whole weights.now }
 {
+    // Over `zip` and iter_mut it was not proved: the loop's invariant then has no amounts and no rest to speak of.
     let mut left = total;
     for (i, weight) in weights.iter().enumerate() {
         let product = total * *weight;
@@ -48,18 +50,15 @@ pub(crate) fn whole_parts(
     left
 }
 
-// The place of the largest, the lowest of several. Over `enumerate` and `skip` it was not proved that the loop's end has passed all.
+// The place of the largest, the lowest of several.
 pub(crate) fn largest_of(rest: &[u64]) -> usize
     requires { 0 < length rest.now }
     ensures { (result ≡ largest rest.now) × (result < length rest.now) }
 {
-    let mut place = 0;
-    for i in 1..rest.len() {
-        if rest[place] < rest[i] {
-            place = i;
-        }
-    }
-    place
+    let most = rest.iter().copied().max().unwrap_or(0);
+    rest.iter()
+        .position(|left| *left == most)
+        .unwrap_or(rest.len())
 }
 
 // Gives the units left over singly to the largest of the rest, which is then struck.
@@ -76,7 +75,8 @@ pub(crate) fn give_left(left: u64, amounts: &mut [u64], rest: &mut [u64])
     }
 }
 
-// The amounts of an accepted division, one for each weight; the rest is room to work in.
+// The amounts of an accepted division, one for each weight. Two slices, no slice of pairs: the amounts are the caller's, the rest is
+// room to work in of fixed size.
 pub(crate) fn share_out(total: u64, weights: &[u64], amounts: &mut [u64], rest: &mut [u64])
     requires amounts_value { division_number total weights.now (length amounts.old) ≡ 0 }
     requires amounts_len { (length amounts.old ≡ length weights.now) × (length rest.old ≡ length weights.now) }

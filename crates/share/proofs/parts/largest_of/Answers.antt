@@ -1,6 +1,26 @@
-use Rattle.std.proofs.Common.{arith}
-use Rattle.share.proofs.Largest.{first_largest}
+-- `share::parts::largest_of` meets its contract: the first place of the greatest, in two passes.
+-- Assumes nothing.
+use Rattle.std.proofs.Common.{rules, tests, ◌≡◌, sym, ap, ◌∙◌, length}
+use Rattle.std.specs.Prelude.{unwrap_or}
+use Rattle.std.proofs.lemmas.Iterator.{YieldsList-from_slice}
+use Rattle.std.proofs.lemmas.Iterator.Adapters.{option_map_id}
+use Rattle.std.proofs.lemmas.Iterator.Consumers.{YieldsList-from_copied, max_from_yields_List}
+use Rattle.std.proofs.lemmas.Iterator.Search.{position_from_yields_List}
+use Rattle.basis.specs.Sums.{greatest}
+use Rattle.share.specs.Division.{largest, first_place_of}
+use Rattle.share.proofs.Largest.{largest_is, greatest_found, first_found}
 use Rattle.share.proofs.parts.largest_of.Goals as goal
 
 pub returns : goal.returns
-returns c = (first_largest c.args.rest.now c.loop-i.i c.loop-i.place (omega arith) c.loop-i.invariant, omega arith)
+unfolding largest first_place_of
+returns c =
+    let r = c.args.rest.now in
+    let most : c.unwrap_or-most.result ≡ greatest r =
+    c.unwrap_or-most.ensures
+    ∙ ap (λ o. unwrap_or o 0) (sym (option_map_id _) ∙ max_from_yields_List _ _ c.max.ensures.ran (YieldsList-from_copied (YieldsList-from_slice r cc)))
+    ∙ greatest_found r in
+    let place : c.unwrap_or.result ≡ largest r =
+    c.unwrap_or.ensures
+    ∙ ap (λ o. unwrap_or o (length r)) (position_from_yields_List _ _ _ _ c.position.ensures.ran (YieldsList-from_slice r cc) (λ x b q k. search (rules, tests, most)))
+    ∙ first_found r (length r) c.requires in
+    (place, rw place (largest_is r c.requires).within)
