@@ -1,4 +1,4 @@
-// Level Year as C calls it (include/yearbook.h).
+// Level Year as C calls it (include/yearbook.h). C has no Result: each function answers the number met, 0 where there is none.
 #![tactic(auto)]
 
 mod figures; // figures.rt: the figures of a journal's run
