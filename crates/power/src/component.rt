@@ -48,7 +48,7 @@ pub struct Components {
 }
 
 // A component without test or availability.
-pub fn fresh_component() -> Component
+fn fresh_component() -> Component
     ensures { result ≡ fresh }
 {
     Component {
