@@ -1,5 +1,4 @@
 -- Laws of the division. `Laws` is what other crates cite.
-pub mod Lists
 pub mod Largest
 pub mod Quotients
 pub mod Units
