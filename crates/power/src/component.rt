@@ -48,7 +48,7 @@ pub struct Components {
 }
 
 // A component without test or availability.
-fn fresh_component() -> Component
+pub fn fresh_component() -> Component
     ensures { result ≡ fresh }
 {
     Component {

@@ -8,7 +8,9 @@ mod quantity; // quantity.rt: kW, kWh and the conversions between them
 mod ranges; // ranges.rt: the ranges of a test and of an availability
 
 pub use card::{card_decides, least_count};
-pub use component::{Component, Components, Hours, Minutes, Trial, fresh_components};
+pub use component::{
+    Component, Components, Hours, Minutes, Trial, fresh_component, fresh_components,
+};
 pub use power::{maximum_power, test};
 pub use quantity::{Kw, Kwh, least, over_hours};
 pub use ranges::{minutes_in_range, test_in_range};
