@@ -18,6 +18,3 @@ overflow_cast-result c =
     let s = c.args.field.now in
     let n = narrow s (λ k. omega (arith, c.type_inv.field k)) c.requires in
     rw (c.number_at.ensures, take-length s) (omega arith)
-
-pub returns : goal.returns
-returns c = rw (c.number_at.ensures, take-length c.args.field.now)
