@@ -60,12 +60,20 @@ impl Ledger {
         }
     }
 
-    // A year, a fix and a close: each differs in what is asked and in what is kept beside the book.
+    // A year, a fix and a close: each differs in what is asked and in what is kept beside the book. What is accepted is done in a function of
+    // its own, since memory for another book is cleared where a function begins that has one.
     #[tactic(auto, using(state::proofs::Replies::refused_reply), unfolding(book::specs::Year::year_of))]
     fn take_year(&mut self, hours: Hours) -> Result<(), Refusal>
         ensures { reply_with (met result) self.new.book ≡ year_of self.old.book hours }
     {
         check_year(self.book.stage, hours)?;
+        self.begin(hours)
+    }
+
+    #[tactic(auto, using(state::proofs::Replies::refused_reply), unfolding(book::specs::Year::year_of))]
+    fn begin(&mut self, hours: Hours) -> Result<(), Refusal>
+        ensures { reply_with (met result) self.new.book ≡ year_of self.old.book hours }
+    {
         self.book = year(self.book, hours)?;
         Ok(())
     }
@@ -75,6 +83,13 @@ impl Ledger {
         ensures { reply_with (met result) self.new.book ≡ fix_of self.old.book dmp }
     {
         check_fix(self.book.stage, &self.book.consumers, dmp)?;
+        self.fix(dmp)
+    }
+
+    #[tactic(auto, using(state::proofs::Replies::refused_reply), unfolding(fix::specs::Fix::fix_of))]
+    fn fix(&mut self, dmp: u32) -> Result<(), Refusal>
+        ensures { reply_with (met result) self.new.book ≡ fix_of self.old.book dmp }
+    {
         self.book = fix(self.book, dmp)?;
         self.total = total_declared(&self.book.consumers);
         self.reals = real_demands(&self.book.consumers);
@@ -86,6 +101,13 @@ impl Ledger {
         ensures { reply_with (met result) self.new.book ≡ close_of self.old.book p }
     {
         check_close(self.book.stage, self.book.dmp, self.total, &self.reals, p)?;
+        self.close(p)
+    }
+
+    #[tactic(auto, using(state::proofs::Replies::refused_reply), unfolding(close::specs::Close::close_of))]
+    fn close(&mut self, p: u32) -> Result<(), Refusal>
+        ensures { reply_with (met result) self.new.book ≡ close_of self.old.book p }
+    {
         self.book = close(self.book, p)?;
         Ok(())
     }

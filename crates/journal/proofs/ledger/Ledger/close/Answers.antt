@@ -1,6 +1,6 @@
--- `journal::ledger::Ledger::take_close` meets its contract: a close leads to a stage in which the figures are not asked. Assumes nothing.
+-- `journal::ledger::Ledger::close` meets its contract: a close leads to a stage in which the figures are not asked. Assumes nothing.
 use Rattle.journal.proofs.Ready.{ready_closed}
-use Rattle.journal.proofs.ledger.Ledger.take_close.Goals as goal
+use Rattle.journal.proofs.ledger.Ledger.close.Goals as goal
 
 pub invariant_of-self : goal.invariant_of-self
 invariant_of-self c =

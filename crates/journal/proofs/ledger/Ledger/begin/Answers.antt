@@ -1,6 +1,6 @@
--- `journal::ledger::Ledger::take_year` meets its contract: a year leads to a stage in which the figures are not asked. Assumes nothing.
+-- `journal::ledger::Ledger::begin` meets its contract: a year leads to a stage in which the figures are not asked. Assumes nothing.
 use Rattle.journal.proofs.Ready.{ready_begun}
-use Rattle.journal.proofs.ledger.Ledger.take_year.Goals as goal
+use Rattle.journal.proofs.ledger.Ledger.begin.Goals as goal
 
 pub invariant_of-self : goal.invariant_of-self
 invariant_of-self c =
