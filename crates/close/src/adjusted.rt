@@ -19,6 +19,7 @@ pub fn total_declared(consumers: &[Consumer; CONSUMERS]) -> u64
 }
 
 // Real demand of a consumer: 0 without a reading, and of the undeclared.
+// A match over the enum: each case has a value of its own.
 pub fn real_demand(x: Consumer) -> u32
     ensures { result ≡ real_demand x }
 {
@@ -36,6 +37,7 @@ pub fn real_demands(consumers: &[Consumer; CONSUMERS]) -> [u32; CONSUMERS]
 }
 
 // DFA by Dreal.
+// DMP and ΣD apart: DMP stands in the book, and a run keeps ΣD beside it.
 fn adjusted_by(dmp: u32, total: u64, real: u32) -> u64
     ensures { result ≡ real * dmp / total }
 {

@@ -31,6 +31,7 @@ pub(crate) fn surpluses(
 }
 
 // The charge of a consumer in cents: for ADF below 0 of who declared less than 98 % of the projection.
+// A match with a guard: all others are charged nothing.
 fn charge(p: u32, dfa: u32, declaration: Declaration) -> u64
     requires { dfa ≤ greatest_power }
     ensures { result ≡ charge_by p dfa declaration }

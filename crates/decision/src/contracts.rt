@@ -27,6 +27,7 @@ fn sum_of(balances: &[u32]) -> u64
 }
 
 // The sum of the balances of a row.
+// The cells are one flat list: see `CELLS` of `state`. Places are made by `as`: std has no From from u32 to usize.
 fn row_sum(balances: &[u32; CELLS], from: usize) -> u64
     requires { from + consumers ≤ cells }
     ensures { result ≡ sum (take consumers (drop from balances.now)) }

@@ -29,6 +29,7 @@ pub struct Told {
 }
 
 // How many of the records read were refused, with place and number of the first.
+// By `as`: std has no From from usize to u64.
 #[tactic(auto, unfolding(crate::specs::Findings::refusals))]
 fn refusals(run: &Run) -> Text<LONGEST_REFUSALS>
     ensures { result ≡ refusals run.now.first run.now.refused run.now.read }

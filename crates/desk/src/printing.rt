@@ -25,6 +25,7 @@ fn unclosed(printed: Result<usize, Refusal>) -> Text<LONGEST_UNCLOSED>
 }
 
 // The printed close of an input, and what is found wrong with it.
+// As `told_listing`: see `unread`.
 #[tactic(auto, unfolding(crate::specs::Printing::page_for, crate::specs::Printing::page_findings_for))]
 pub fn told_page(input: &[u8]) -> Told
     ensures output { result.output ≡ page_for input.now }

@@ -22,6 +22,7 @@ pub struct Rest {
 }
 
 // All replies to an input, none where it is too long.
+// One comparison with `MOST_INPUT`: what is answered then differs.
 #[tactic(auto, unfolding(crate::specs::Replies::lines_from, crate::specs::Replies::replies_of, crate::specs::Replies::replies_for))]
 pub fn all_replies(input: &[u8]) -> Rest
     ensures { rest_of input.now result ≡ replies_for input.now }
@@ -39,6 +40,7 @@ pub fn all_replies(input: &[u8]) -> Rest
 }
 
 // The line of a record whose call was answered.
+// By number: the line shows it, and 0 has words too. The readings are lent beside the call. By `as`: std has no From from usize to u64.
 #[tactic(auto, unfolding(crate::specs::Replies::reply_line))]
 fn reply_line(place: usize, call: Call, readings: &[u8], number: u32) -> Text<LONGEST_REPLY>
     ensures { result ≡ reply_line place call readings.now number }
@@ -53,6 +55,7 @@ fn reply_line(place: usize, call: Call, readings: &[u8], number: u32) -> Text<LO
 }
 
 // The last line: where and why the reading stopped.
+// By number: 0 and the stops have words too.
 #[tactic(auto, unfolding(crate::specs::Replies::end_line))]
 fn end_line(place: usize, stop: u32) -> Text<LONGEST_REPLY>
     ensures { result ≡ end_line place stop }

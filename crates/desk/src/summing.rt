@@ -10,6 +10,7 @@ use summary::summary;
 use text::Text;
 
 // The run of an input in words, and what is found wrong with it.
+// As `told_listing`: see `unread`.
 #[tactic(auto, unfolding(crate::specs::Summing::summary_for, crate::specs::Findings::findings_for))]
 pub fn told_run(input: &[u8]) -> Told
     ensures output { result.output ≡ summary_for input.now }

@@ -39,6 +39,7 @@ pub(crate) fn demands(
 }
 
 // A consumer with its firm demand, if declared.
+// A match over the enum: each case has a consumer of its own.
 fn with_demand(df: u32, x: Consumer) -> Consumer
     ensures { result ≡ with_demand df x }
 {

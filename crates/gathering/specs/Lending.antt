@@ -11,7 +11,7 @@ use Rattle.power.specs.contracts.component.Components.{the_row as components_row
 abbrev pub component_in : Components → ℕ → Component
 component_in xs component = pick (eqb component 0) xs.set (pick (eqb component 1) xs.generator xs.storage)
 
--- the components with another in its place
+-- the components with another in its place; above 2 it is the storage, where `with_component` has none, but no call gets there
 abbrev pub with_component_in : Components → ℕ → Component → Components
 with_component_in xs component x =
     record {

@@ -48,6 +48,7 @@ fn enrolled_unit(entry: Entry) -> Unit
 }
 
 // An enrolment of a unit that is not enrolled.
+// A match: each case has an answer of its own.
 pub(crate) fn enrolled(unit: Unit, enrolling: Enrolling) -> Result<Unit, Refusal>
     ensures { decided result ≡ decided_by (vacancy unit.enrolment) (enrolled_unit (entry_of enrolling.producer enrolling.kind enrolling.flags enrolling.pic enrolling.ppr enrolling.e1 enrolling.e2 enrolling.cap)) }
 {

@@ -11,6 +11,7 @@ use table::{Call, UnitCall, check_fields};
 
 // A call of a unit, decided from the stage and the unit: the unit that is to be stored. The unit and what is asked come apart, as the match
 // over the call that chose this function has them.
+// The readings are lent beside the call, which is a value.
 #[tactic(auto, unfolding(table::specs::Ranges::call_number, table::specs::Ranges::rest_in_range, crate::specs::Units::unit_answer_of, crate::specs::Units::unit_number, crate::specs::Units::unit_rest, crate::specs::Units::unit_after))]
 pub fn unit_answer(
     unit: u32,

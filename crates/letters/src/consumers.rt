@@ -10,6 +10,7 @@ use text::{Amount, LONGEST_LINE, Text, line};
 pub const LONGEST_BY_CONSUMER: usize = CONSUMERS * LONGEST_LINE;
 
 // The line D of a consumer, none where it is not declared.
+// A match: each case has a text of its own.
 #[tactic(auto, unfolding(crate::specs::Letters::demand_line))]
 fn demand_line(number: usize, declaration: Declaration) -> Text<LONGEST_LINE>
     ensures { result ≡ demand_line number declaration }

@@ -10,6 +10,7 @@ use text::{LONGEST_LINE, Text, line};
 pub const LONGEST_BY_UNIT: usize = UNITS * LONGEST_LINE;
 
 // The line U of a unit, none where it is not enrolled.
+// A match: each case has a text of its own.
 #[tactic(auto, unfolding(crate::specs::Letters::unit_line))]
 fn unit_line(
     number: usize,

@@ -19,6 +19,7 @@ fn put_too_long(out: &mut [u8]) -> Result<usize, Refusal>
 }
 
 // The output for an input, over the front of out.
+// Over the caller's buffer, as C lends it.
 #[tactic(auto, unfolding(crate::specs::Listing::output_of))]
 pub fn put_output(input: &[u8], out: &mut [u8]) -> Result<usize, Refusal>
     ensures { Lists (output_of input.now) out.old (filled result) out.new }

@@ -16,6 +16,7 @@ const PAGE_LINES: usize = 50;
 const LONGEST_ADDED: usize = 2 * LINE;
 
 // The bytes of so many lines with the headings of their pages.
+// Two functions ask for so many lines: no type of its own.
 pub(crate) fn size_of(lines: usize) -> usize
     requires { lines ≤ consumer_count }
     ensures { result ≡ bytes_for lines }

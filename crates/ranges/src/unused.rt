@@ -15,6 +15,7 @@ const NONE: Uses = Uses {
 };
 
 // The flag of the supply report and the fields PPR, E1, E2 and CAP by kind: a number, since any may be asked, and five kinds are one range.
+// Document 01 names this form, a match over the kinds with ranges.
 #[tactic(auto, unfolding(table::specs::Ranges::uses_of))]
 pub(crate) fn uses_of(kind: u32) -> Uses
     ensures { result ≡ uses_of kind }

@@ -8,6 +8,7 @@ ghost use Rattle.table.specs.Fields.{encode};
 use table::FIELDS;
 
 // The values in these widths, over what stands in out from `at` on.
+// Widths and values are the two arrays of `Fields`.
 pub fn put_fields(out: &mut [u8], at: usize, widths: &[usize; FIELDS], values: &[u32; FIELDS])
     requires { at + sum widths.now ≤ length out.old }
     ensures { out.new ≡ written out.old at (encode widths.now values.now) }

@@ -61,6 +61,7 @@ pub fn read_at(journal: &[u8], at: usize) -> Read
 }
 
 // The number at which the reading stops there, 0 where it does not: a run tells a buyer and C this number.
+// No From: it would give a whole record a number too.
 pub fn stop_number(read: Read) -> u32
     ensures { result ≡ stop_number read }
 {

@@ -31,6 +31,7 @@ fn put_record(call: Call, readings: &[u8], out: &mut [u8])
 }
 
 // Refuses the call out of range, and then a buffer that is too short, with nothing written; else writes the record over the start of out.
+// The readings are lent beside the call, which is a value.
 pub fn write(call: Call, readings: &[u8], out: &mut [u8]) -> Result<(), Refusal>
     ensures { (met result ≡ write_number call readings.now (length out.old)) × (out.new ≡ written_by call readings.now out.old) }
 {

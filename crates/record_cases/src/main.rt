@@ -54,6 +54,7 @@ fn show_fields<W: Write>(out: &mut W, call: Call) -> io::Result<()> {
 }
 
 // What the writer makes of a call in a buffer of so many bytes: its number, or the record's bytes.
+// The readings are lent beside the call, which is a value.
 fn show_written<W: Write>(
     out: &mut W,
     call: Call,

@@ -109,7 +109,7 @@ ranged c readings rest = pick (eqb (call_number c readings) 0) rest (call_number
 abbrev pub staged : Stage → Stage → ℕ → ℕ
 staged own stage rest = pick (eqb (stage_number stage) (stage_number own)) rest 4
 
--- what a call comes to: its number, 0 if accepted, and the book after it
+-- what a call comes to: its number, 0 if accepted, and the book after it; of a component `Answer` says the same, and names what it holds
 pub record Reply : Type 0 where
   pub number : ℕ
   pub book : Book

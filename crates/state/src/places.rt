@@ -6,6 +6,7 @@ ghost use Rattle.state.specs.Places.{place_among, place_of};
 use quantities::{CONSUMERS, UNITS};
 
 // The place of a number from 1 to the count, if it is one.
+// By `as`: std has no From from u32 to usize.
 pub fn place_among(count: usize, number: u32) -> Option<usize>
     ensures { result ≡ place_among count number }
 {

@@ -23,6 +23,7 @@ const LONGEST_PLACED: usize = LONGEST_LABEL + LONGEST_DECIMAL + 2 + LONGEST_SAID
 pub const LONGEST_SUMMARY: usize = LONGEST_COUNTS + 2 * LONGEST_PLACED;
 
 // Words and a count, with a line feed.
+// By `as`, here and below: std has no From from usize to u64.
 #[tactic(auto, unfolding(crate::specs::Summary::count_line))]
 fn count_line(label: &str, count: usize) -> Text<LONGEST_COUNT>
     requires { length label.now ≤ LONGEST_LABEL }
@@ -48,6 +49,7 @@ fn counts(run: &Run) -> Text<LONGEST_COUNTS>
 }
 
 // Why the reading stopped: the journal's end, or number 1 or 2.
+// A number, as `Run.stop` is.
 #[tactic(auto, unfolding(crate::specs::Summary::reason))]
 fn reason(stop: u32) -> Text<LONGEST_SAID>
     ensures { result ≡ reason stop }
@@ -75,6 +77,7 @@ fn stop_line(run: &Run) -> Text<LONGEST_PLACED>
 }
 
 // Where the first refused record stands, and the number that it met; that there is none.
+// A match: each case has words of its own.
 #[tactic(auto, unfolding(crate::specs::Summary::first_line))]
 fn first_line(first: Option<Refused>) -> Text<LONGEST_PLACED>
     ensures { result ≡ first_line first }

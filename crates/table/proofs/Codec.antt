@@ -2,21 +2,17 @@
 use mathlib.Core.Path.{◌≡◌, refl, sym, ap, ◌∙◌}
 use mathlib.Core.Bool.{Bool, true}
 use mathlib.Core.List.{List, [], ◌∷◌, ◌++◌, append_assoc}
-use Prim.Native.Nat.{ℕ, zero, suc, ◌+◌, ◌^◌, ◌≤◌, ◌<◌}
+use Prim.Native.Nat.{ℕ, zero, suc, min, ◌+◌, ◌^◌, ◌≤◌, ◌<◌}
 use native.Mathlib.Numerals.{add-one}
 use native.Mathlib.Nat.{le_of_suc-le-suc, not-suc-le-zero}
 use native.Mathlib.Omega.{arith}
 use borrow.Author.Tests.{ltb-true}
-use denote.Param.Members.{Mut, Called}
 use lib.Dec.{ltb}
-use lib.ListN.{length, get_or, take, drop, take-append-drop, length-append, length-drop}
-use lib.Seq.{drop-cons, take_at, drop_at, take-add, take-append-le, drop-append-le, length-take-le}
-use Rattle.std.specs.Prelude.{Some}
-use Rattle.std.specs.Array.{list_steps, MapsFrom, IsMapOf}
-use Rattle.std.specs.Iterator.{Yields}
+use lib.ListN.{length, get_or, set, take, drop, take-append-drop, length-append, length-drop}
+use lib.Seq.{drop-cons, take-suc, take-suc-set, take_at, drop_at, take-add, take-append-le, drop-append-le, length-take-le}
 use Rattle.std.specs.List.{list_all}
 use Rattle.std.proofs.lemmas.Bool.{and_parts}
-use Rattle.std.proofs.lemmas.List.{drop_all}
+use Rattle.std.proofs.lemmas.List.{take_min, drop_min}
 use Rattle.basis.specs.Choice.{between}
 use Rattle.basis.specs.Numbers.{Bytes, number, bytes_of}
 use Rattle.basis.specs.Sums.{sum}
@@ -38,6 +34,11 @@ length-encode (w ∷ ws) [] h = absurd (omega arith)
 length-encode (w ∷ ws) (v ∷ vs) h =
     length-append (bytes_of w v) (encode ws vs)
     ∙ omega (arith, sum-cons w ws, length-bytes_of w v, length-encode ws vs (omega arith))
+
+pub length-decode : (ws s : List ℕ) → length (decode ws s) ≡ length ws
+unfolding decode
+length-decode [] s = refl
+length-decode (w ∷ ws) s = ap suc (length-decode ws (drop w s))
 
 -- values in their ranges, written and read, are what they were, whatever stands behind
 pub decode-encode : (cs : List Column) (vs rest : List ℕ) → length vs ≡ length cs → fit_all cs ≡ true → within_all cs vs ≡ true → decode (widths_of cs) (encode (widths_of cs) vs ++ rest) ≡ vs
@@ -88,20 +89,15 @@ decode-append (w ∷ ws) s more k =
 pub decode_part : (ws s : List ℕ) (n : ℕ) → sum ws ≤ length (take n s) → decode ws (take n s) ≡ decode ws s
 decode_part ws s n h = sym (decode-append ws (take n s) (drop n s) h) ∙ ap (decode ws) (take-append-drop n s)
 
--- what a run along a list has given, and the next item, stand in it
-pub item_at : (xs all t u : List ℕ) (x : ℕ) → Yields list_steps all xs t → list_steps t (Some x) u → get_or all (length xs) 0 ≡ x
-item_at [] all t u x y e = rw (y, e) refl
-item_at (w ∷ xs) all t u x y e = rw y.1 (item_at xs y.0 t u x y.2 e)
-
--- values read by calls, of which each takes the bytes of its width off what the one before it left
-module _ {F : Type 0} (g : Mut F (ℕ × Unit {0}) ℕ) (left : F → List ℕ) (says : (f q : F) (w v : ℕ) → Called g f (w, tt) v q → (v ≡ number (take w (left f))) × (left q ≡ drop w (left f))) where
-  decoded_from : (f : F) (ws vs : List ℕ) (i m : ℕ) → length ws ≡ i + m → length vs ≡ i + m → MapsFrom g f ws vs i m → drop i vs ≡ decode (drop i ws) (left f)
-  unfolding decode
-  decoded_from f ws vs i zero k l e = rw (drop_all i ws (omega arith), drop_all i vs (omega arith)) refl
-  decoded_from f ws vs i (suc m) k l e =
-      let s = says f e.0 e.1 e.2 e.5 in
-      let rest : drop (suc i) vs ≡ decode (drop (suc i) ws) (left e.0) = (simp add-one at (decoded_from e.0 ws vs (i + 1) m (omega arith) (omega arith) e.6)) in
-      rw (drop-cons ws i 0 (omega arith), drop-cons vs i 0 (omega arith), e.3.1 0, e.4.1 0, rest, s.0, s.1) refl
-
-  pub decoded : {f : F} {ws vs : List ℕ} {n : ℕ} → length ws ≡ n → IsMapOf g f ws vs n → vs ≡ decode ws (left f)
-  decoded {f} {ws} {vs} {n} k p = decoded_from f ws vs 0 n (omega arith) (omega (arith, p.long)) p.each
+-- one turn of a loop that decodes: the next value joins those that are there, and its bytes leave the rest
+pub decode_turn : (ws s values all : List ℕ) (i n v : ℕ) → i < length ws → i < length values → length all ≡ length ws → take i values ≡ take i all → decode (drop i ws) s ≡ drop i all → n ≡ min (get_or ws i 0) (length s) → v ≡ number (take n s) → (take (i + 1) (set values i v) ≡ take (i + 1) all) × (decode (drop (i + 1) ws) (drop n s) ≡ drop (i + 1) all)
+unfolding decode
+decode_turn ws s values all i n v h k l a b en ev =
+    let w : ℕ = get_or ws i 0 in
+    let t : take n s ≡ take w s = ap (λ m. take m s) en ∙ take_min w s in
+    let d : drop n s ≡ drop w s = ap (λ m. drop m s) en ∙ drop_min w s in
+    let e : number (take w s) ∷ decode (drop (suc i) ws) (drop w s) ≡ get_or all i 0 ∷ drop (suc i) all =
+    ap (λ (x : List ℕ). decode x s) (sym (drop-cons ws i 0 h)) ∙ b ∙ drop-cons all i 0 (omega arith) in
+    let first : v ≡ get_or all i 0 = ev ∙ ap number t ∙ cc e in
+    let others : decode (drop (suc i) ws) (drop w s) ≡ drop (suc i) all = cc e in
+    (rw (add-one i, take-suc-set values i v k, take-suc all i 0 (omega arith), a, first) refl, rw (add-one i, d) others)

@@ -1,5 +1,5 @@
 // The record of a mark, the call of its bytes, and the fields of a call.
-ghost use Rattle.std.specs.Prelude.{◌≡◌, ◌<◌, ◌≤◌, ◌^◌, length, take, drop};
+ghost use Rattle.std.specs.Prelude.{◌≡◌, ◌<◌, ◌≤◌, ◌^◌, length};
 ghost use Rattle.basis.specs.Numbers.{number};
 ghost use Rattle.quantities.specs.Refusals.{met};
 ghost use Rattle.table.specs.Fields.{decode, within_all};
@@ -60,21 +60,20 @@ fn number_of(field: &[u8]) -> u32
     basis::number_at(field, 0, field.len()) as u32
 }
 
-// The values that bytes hold in the widths of a record's fields; those that are not there count as 0.
+// The values that bytes hold in the widths of a record's fields; those that are not there count as 0. By places: one map over the widths
+// proves too, but takes half as long again for a record, and a bar of speed binds the run.
 fn decode(mark: Mark, fields: &[u8]) -> [u32; FIELDS]
     ensures { result ≡ decode (form_of mark).widths fields.now }
 {
+    let widths = form_of(mark).widths;
+    let mut values = [0; FIELDS];
     let mut rest = fields;
-    form_of(mark).widths.map(
-        |width|
-            requires { width ≤ widest }
-            ensures { (result ≡ number (take width rest.entry.now)) × (rest.exit.now ≡ drop width rest.entry.now) }
-        {
-            let (field, behind) = rest.split_at(width.min(rest.len()));
-            rest = behind;
-            number_of(field)
-        },
-    )
+    for i in 0..FIELDS {
+        let (field, behind) = rest.split_at(widths[i].min(rest.len()));
+        values[i] = number_of(field);
+        rest = behind;
+    }
+    values
 }
 
 // The call of a record whose fields are these bytes; those that are not there count as 0.

@@ -101,6 +101,7 @@ fn readings_text(readings: &[u8]) -> Text<LONGEST_READINGS>
 }
 
 // The call with its readings.
+// The readings are lent beside the call, which is a value.
 #[tactic(auto, unfolding(crate::specs::Calls::call_text, table::specs::Ranges::fields_of))]
 pub fn call_text(call: Call, readings: &[u8]) -> Text<LONGEST_CALL>
     ensures { result ≡ call_text call readings.now }

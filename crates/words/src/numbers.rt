@@ -131,6 +131,7 @@ pub fn condition_line(number: u32) -> Text<LONGEST_SAID>
 }
 
 // A place, a colon, and what is said of it.
+// By `as`: std has no From from usize to u64.
 #[tactic(auto, unfolding(crate::specs::Numbers::at_place))]
 pub fn at_place(place: usize, number: u32) -> Text<LONGEST_AT_PLACE>
     ensures { result ≡ at_place place number }

@@ -44,6 +44,7 @@ fn told(asked: Asked, input: &[u8]) -> Told {
 }
 
 // What is found wrong with an input, and then what is asked for: who reads this may leave, as `head` does, and end the program.
+// One comparison with `MOST_INPUT`: what is printed then differs.
 pub fn tell(rt: &HostRuntime, asked: Asked, input: &[u8]) -> Result<(), Failure<'static>> {
     let told = told(asked, input);
     unless_left(Print::write_all(&rt.stderr(), told.findings.as_bytes()))?;

@@ -20,6 +20,7 @@ pub struct Named {
     pub number: u64,
 }
 
+// A match: each case has figures of its own.
 fn named_of(first: Option<Refused>) -> Named
     ensures { result ≡ named_of first }
 {
@@ -38,6 +39,7 @@ fn named_of(first: Option<Refused>) -> Named
 }
 
 // The figures of a run.
+// In the order that yearbook.h names; no From, since C has it as an array. By `as`: std has no From from usize to u64.
 fn figures_of(run: &Run) -> [u64; FIGURES]
     ensures value { result ≡ figures_of run.now }
     ensures by_index { (k : ℕ) → get_or result k 0 < 2 ^ 64 }
