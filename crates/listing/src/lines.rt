@@ -1,4 +1,5 @@
-// The listing of a run, letter after letter.
+// The listing of a run, letter after letter. Each text lies in the memory of its own function, so that no more of them are there at a time
+// than are needed: the functions for C use less than 200 kB.
 ghost use Rattle.std.specs.Prelude.{◌≡◌};
 ghost use Rattle.listing.specs.Listing.{firm_lines, closed_lines, stage_lines, listing_of};
 
@@ -20,6 +21,7 @@ const LONGEST_STAGE: usize = LONGEST_FIRM + LONGEST_CLOSED;
 pub const LONGEST: usize = LONGEST_STAGE + LONGEST_LINE;
 
 // U, P and D.
+#[inline(never)]
 #[tactic(auto, unfolding(crate::specs::Listing::firm_lines))]
 fn firm_lines(book: &Book) -> Text<LONGEST_FIRM>
     ensures { result ≡ firm_lines book.now }
@@ -32,6 +34,7 @@ fn firm_lines(book: &Book) -> Text<LONGEST_FIRM>
 }
 
 // S and T.
+#[inline(never)]
 #[tactic(auto, unfolding(crate::specs::Listing::closed_lines))]
 fn closed_lines(book: &Book) -> Text<LONGEST_CLOSED>
     ensures { result ≡ closed_lines book.now }
@@ -51,6 +54,7 @@ fn closed_lines(book: &Book) -> Text<LONGEST_CLOSED>
 }
 
 // The lines that the book's stage has.
+#[inline(never)]
 #[tactic(auto, unfolding(crate::specs::Listing::stage_lines))]
 fn stage_lines(book: &Book) -> Text<LONGEST_STAGE>
     ensures { result ≡ stage_lines book.now.stage book.now }
@@ -68,6 +72,7 @@ fn stage_lines(book: &Book) -> Text<LONGEST_STAGE>
 }
 
 // The whole listing.
+#[inline(never)]
 #[tactic(auto, unfolding(crate::specs::Listing::listing_of))]
 pub fn listing(run: &Run) -> Text<LONGEST>
     ensures { result ≡ listing_of run.now }

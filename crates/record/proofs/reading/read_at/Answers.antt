@@ -25,6 +25,6 @@ pub returns-in-Some : goal.returns-in-Some
 returns-in-Some c =
     let a = c.args in
     let s = a.journal.now in
-    c.read_marked.ensures
+    c.read_each.ensures
     ∙ ap (λ (f : Option Mark). read_found s a.at f) (sym c.in-Some.is)
     ∙ at_two s a.at c.mark_at.result c.if-journal-at.false c.if-journal-at-lt2.false (c.mark_at.ensures ∙ ap mark_at c.number_at.ensures)
