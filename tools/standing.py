@@ -2,7 +2,7 @@
 """standing.py: counts the column State of docs/DESIGN-PASS.md, and writes the numbers into the tables of its points and into its last table.
 
 A row of places counts as changed, kept or to do by the first word of its State, as many times as its column Count says; in the table of
-answers the column Answers counts. It fails where a table's rows do not add up to what was found."""
+answers the column Answers counts, and those that are left count as kept. It fails where a table's rows do not add up to what was found."""
 import pathlib
 import re
 import sys
@@ -33,7 +33,11 @@ def places(lines):
         state = next((s for s in STATES if row[-1].startswith(s)), None)
         if state is None:
             sys.exit(f"no state: {line}")
-        counts.setdefault(current, dict.fromkeys(STATES, 0))[state] += int(row[column])
+        left = re.match(r"changed: (\d+) (?:are|is) left", row[-1])
+        kept = int(left[1]) if left else 0
+        states = counts.setdefault(current, dict.fromkeys(STATES, 0))
+        states[state] += int(row[column]) - kept
+        states["kept"] += kept
     return counts
 
 

@@ -32,11 +32,6 @@ pub pick_same : {A : Type 0} (t : Bool) (a : A) → pick t a a ≡ a
 pick_same true a = refl
 pick_same false a = refl
 
--- a test with nothing behind it
-pub alone : (t : Bool) → pick t true false ≡ t
-alone true = refl
-alone false = refl
-
 -- a number that is handed on was 0, and so was what came behind it
 pub handed_on : (n rest : ℕ) → pick (eqb n 0) rest n ≡ 0 → (n ≡ 0) × (rest ≡ 0)
 handed_on n rest e = go (eqb n 0) refl e

@@ -4,6 +4,4 @@ pub mod Sums
 pub mod Tables
 pub mod Entries
 pub mod Numbers
-pub mod Answers
-pub mod Filling
 pub mod Made

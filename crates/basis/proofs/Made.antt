@@ -14,8 +14,7 @@ use Rattle.std.specs.Array.{IsFromFnResult, IsFromFnResultFrom, MapsFrom, IsMapO
 use Rattle.basis.specs.Sums.{sum}
 use Rattle.basis.specs.Tables.{tab}
 use Rattle.basis.proofs.Sums.{sum_at_most}
-use Rattle.basis.proofs.Tables.{length-tab, get_or-tab, tab_of}
-use Rattle.basis.proofs.Filling.{tab-map}
+use Rattle.basis.proofs.Tables.{length-tab, get_or-tab, tab_of, tab-map}
 
 module _ {F B : Type 0} (g : Mut F (ℕ × Unit {0}) B) (h : ℕ → B) (f : F) (n : ℕ) (says : (i : ℕ) (y : B) (q : F) → i < n → Called g f (i, tt) y q → (y ≡ h i) × (q ≡ f)) where
   made_at : (ys : List B) (i m : ℕ) → i + m ≡ n → IsFromFnResultFrom g f ys i m → (k : ℕ) (d : B) → k < m → get_or ys (i + k) d ≡ h (i + k)

@@ -1,6 +1,6 @@
 -- Sums over a list and over a count.
 use mathlib.Core.Path.{◌≡◌, refl, sym, ap, ◌∙◌}
-use mathlib.Core.Bool.{true, false}
+use mathlib.Core.Bool.{true}
 use mathlib.Core.List.{List, [], ◌∷◌}
 use Prim.Native.Nat.{ℕ, zero, suc, ◌+◌, ◌*◌, ◌≤◌, ◌<◌, zero-le}
 use native.Mathlib.Nat.{suc-mul, mul-zero, le_refl}
@@ -8,12 +8,13 @@ use native.Mathlib.Numerals.{add-one}
 use native.Mathlib.Omega.{arith}
 use borrow.Author.Tests.{leb-true, le-leb}
 use lib.Dec.{leb}
-use lib.ListN.{length, get_or, set, take, drop, replicate}
+use lib.ListN.{length, get_or, set, take, replicate}
 use lib.Seq.{take_all}
 use Rattle.std.specs.List.{sum_by}
-use Rattle.std.proofs.lemmas.Bool.{and_parts, and_from, false_from_ne_true}
+use Rattle.std.proofs.lemmas.Bool.{and_parts}
 use Rattle.std.proofs.lemmas.List.Folds.{sum_by-replicate}
-use Rattle.std.proofs.lemmas.List.Sums.{sum_by-cons, sum_by-set, sum_by_more, sum_by-drop_more}
+use Rattle.std.proofs.lemmas.List.Elements.{All-from_get_or}
+use Rattle.std.proofs.lemmas.List.Sums.{sum_by-cons, sum_by-set, sum_by_more, list_all-from_AllPass}
 use Rattle.basis.specs.Sums.{sum, sum_up, all_at_most}
 
 pub sum-cons : (x : ℕ) (xs : List ℕ) → sum (x ∷ xs) ≡ x + sum xs
@@ -44,25 +45,9 @@ all_at_most_lem m [] e k = zero-le
 all_at_most_lem m (x ∷ l) e zero = leb-true x m (and_parts (leb x m) (all_at_most m l) e).0
 all_at_most_lem m (x ∷ l) e (suc k) = all_at_most_lem m l (and_parts (leb x m) (all_at_most m l) e).1 k
 
+-- the library's, at this test
 pub at_most_all : (m : ℕ) (l : List ℕ) → ((k : ℕ) → k < length l → get_or l k 0 ≤ m) → all_at_most m l ≡ true
-at_most_all m [] h = refl
-at_most_all m (x ∷ l) h = and_from (leb x m) (all_at_most m l) (le-leb x m (h 0 (omega arith))) (at_most_all m l (λ k p. h (suc k) (omega arith)))
-
--- one element above the limit is enough
-pub not_all_at_most : (m : ℕ) (l : List ℕ) (k : ℕ) → m < get_or l k 0 → all_at_most m l ≡ false
-not_all_at_most m l k h =
-    false_from_ne_true (all_at_most m l) (λ e. absurd (omega (arith, all_at_most_lem m l e k)))
-
-pub sum_up-zero : (f : ℕ → ℕ) → sum_up f 0 ≡ 0
-unfolding sum_up
-sum_up-zero f = refl
-
-pub sum_up-suc : (f : ℕ → ℕ) (n : ℕ) → sum_up f (suc n) ≡ sum_up f n + f n
-unfolding sum_up
-sum_up-suc f n = refl
-
-pub sum_up_more : (f : ℕ → ℕ) (n : ℕ) → sum_up f (n + 1) ≡ sum_up f n + f n
-sum_up_more f n = rw add-one (sum_up-suc f n)
+at_most_all m l h = list_all-from_AllPass (λ x. leb x m) l (All-from_get_or (λ x. leb x m ≡ true) l 0 (λ k p. le-leb (get_or l k 0) m (h k p)))
 
 pub sum_up_at_most : (m : ℕ) (f : ℕ → ℕ) (n : ℕ) → ((k : ℕ) → k < n → f k ≤ m) → sum_up f n ≤ n * m
 unfolding sum_up
@@ -89,7 +74,3 @@ module _ {X : Type 0} (f : X → ℕ) where
 -- a list's sum as a sum over its places
 pub sum_as_sum_up : (l : List ℕ) → sum l ≡ sum_up (λ k. get_or l k 0) (length l)
 sum_as_sum_up l = sum_by_places (λ (n : ℕ). n) l 0
-
--- one turn of a loop that sums: the next element leaves what is to come, and joins what is passed
-pub sum-next : (l : List ℕ) (i : ℕ) → i < length l → sum (drop i l) ≡ get_or l i 0 + sum (drop (i + 1) l)
-sum-next l i h = sum_by-drop_more (λ (n : ℕ). n) l i 0 h

@@ -29,7 +29,7 @@ pub fn put_number(out: &mut [u8], at: usize, width: usize, x: u64)
     }
 }
 
-// The numbers one after the other, `width` bytes each, over the front of out.
+// The numbers one after the other, `width` bytes each, over the front of out, which is the caller's buffer: amounts or figures for C.
 pub fn put_numbers(out: &mut [u8], width: usize, numbers: &[u64])
     requires { width * length numbers.now ≤ length out.old }
     ensures { out.new ≡ written out.old 0 (all_bytes_of width numbers.now) }

@@ -13,7 +13,7 @@ use state::{Book, consumer_place, unit_place};
 use table::{ConsumerCall, ContractCall, UnitCall};
 
 // A call of a unit.
-// Unit and act come apart, as the match over the call has them, here and in the next two; the readings are lent beside the call.
+// Unit and act come apart, as the match over the call has them, here and below; the readings are lent beside the call.
 pub fn settle_unit(
     book: &mut Book,
     unit: u32,

@@ -15,7 +15,7 @@ use std::io::{self, BufWriter, Read as _, Write};
 const MOST: u64 = 65_536;
 
 // A number with a minus sign where it is below 0. The library prints nothing, and Display of another crate's type needs a type of one's own.
-#[derive(Clone, Copy)]
+#[derive(Clone, Copy, Debug, PartialEq, Eq)]
 struct Shown(Signed);
 
 impl fmt::Display for Shown {
@@ -28,14 +28,15 @@ impl fmt::Display for Shown {
 }
 
 // A charge is below 0, a credit is not.
-fn cents(charge: u64, credit: u64) -> Shown {
-    Shown(if charge == 0 {
-        Signed::Plus(credit)
+fn cents(x: Adjustment) -> Shown {
+    Shown(if x.charge == 0 {
+        Signed::Plus(x.credit)
     } else {
-        Signed::Minus(charge)
+        Signed::Minus(x.charge)
     })
 }
 
+// By numbers: a question takes one, here and below.
 fn show_firm<W: Write>(out: &mut W, book: &Book) -> io::Result<()> {
     for unit in 1..=UNITS as u32 {
         if let Some(Offers { firm, efficient }) = questions::unit_offers(book, unit) {
@@ -57,15 +58,8 @@ fn show_firm<W: Write>(out: &mut W, book: &Book) -> io::Result<()> {
 
 fn show_closed<W: Write>(out: &mut W, book: &Book) -> io::Result<()> {
     for consumer in 1..=CONSUMERS as u32 {
-        if let Some(
-            Adjustment {
-                adf,
-                charge,
-                credit,
-            },
-        ) = questions::adjustment_of(book, consumer)
-        {
-            writeln!(out, "S {consumer} {} {}", Shown(adf), cents(charge, credit))?;
+        if let Some(x) = questions::adjustment_of(book, consumer) {
+            writeln!(out, "S {consumer} {} {}", Shown(x.adf), cents(x))?;
         }
     }
     let totals = questions::close_totals(book);

@@ -8,7 +8,7 @@ use state::Book;
 use std::mem;
 
 // The calls that are still to be answered: those from a place of the journal on, with the book that the calls before it have made.
-#[derive(Clone, Copy)]
+#[derive(Clone, Copy, Debug, PartialEq, Eq)]
 pub struct Replies<'a> {
     journal: &'a [u8],
     pub place: usize,

@@ -2,23 +2,23 @@
 use Rattle.std.specs.Prelude.{Option, Result, Ok, Err, IfOk}
 use Rattle.std.specs.Result.{result_unwrap_or}
 use mathlib.Core.Path.{◌≡◌, refl, sym, ap, ◌∙◌}
-use mathlib.Core.Bool.{Bool, true, false}
+use mathlib.Core.Bool.{true}
 use mathlib.Core.List.{List, [], ◌∷◌, map}
-use Prim.Native.Nat.{ℕ, zero, suc, ◌-◌, ◌*◌, ◌/◌, ◌^◌, ◌≤◌, ◌<◌}
+use Prim.Native.Nat.{ℕ, ◌-◌, ◌*◌, ◌/◌, ◌≤◌}
 use native.Mathlib.Nat.{zero-mul, zero-div}
 use native.Mathlib.Omega.{arith}
 use lib.Dec.{eqb}
-use lib.ListN.{length, get_or, replicate, length-map, get_or-map}
+use lib.ListN.{length, get_or, replicate, get_or-map}
 use Rattle.basis.specs.Choice.{pick}
 use Rattle.basis.specs.Sums.{sum, all_at_most}
 use Rattle.basis.specs.Tables.{tab}
 use Rattle.basis.proofs.Sums.{sum_zeros, all_at_most_lem}
-use Rattle.basis.proofs.Tables.{tab_same}
+use Rattle.basis.proofs.Tables.{tab_same, tab-map}
 use Rattle.share.specs.Division.{division_number, shares}
 use Rattle.quantities.specs.declared.refusals.Refusal.{Refusal}
-use Rattle.quantities.specs.Refusals.{refusal_number, met}
+use Rattle.quantities.specs.Refusals.{met}
 use Rattle.quantities.proofs.RefusalLaws.{refusing}
-use Rattle.quantities.specs.Limits.{greatest_total, greatest_power, greatest_price, consumers}
+use Rattle.quantities.specs.Limits.{greatest_total, greatest_power, consumers}
 use Rattle.state.specs.declared.kept.Declaration.{Declaration}
 use Rattle.state.specs.declared.kept.Declaration.TheVariants.{Undeclared, Declared}
 use Rattle.state.specs.declared.kept.Consumer.{Consumer}
@@ -28,18 +28,11 @@ use Rattle.table.specs.declared.calls.Call.TheVariants as call
 use Rattle.table.proofs.Table.{close-ranged}
 use Rattle.state.specs.declared.kept.Stage.{Stage}
 use Rattle.state.specs.declared.kept.Stage.TheVariants.{Firm}
-use Rattle.state.specs.declared.kept.Book.{Book}
-use Rattle.state.specs.State.{fresh_consumer, stage_number, ranged, staged, replied}
-use Rattle.state.proofs.Replies.{refused_reply}
+use Rattle.state.specs.State.{fresh_consumer, stage_number, ranged, staged}
 use Rattle.fix.specs.Fix.{weights_of}
-use Rattle.close.specs.Close.{declared_real, real_demand, reals_of, adjusted_by, adjusted_of, adjusted_in, surplus_by, charge_by, surpluses_in, charges_in, credits_of, undistributed_of, close_rest, close_number_by, close_number_from, close_number, figures_of, closed, close_of}
+use Rattle.close.specs.Close.{declared_real, real_demand, reals_of, adjusted_by, adjusted_of, adjusted_in, surplus_by, charge_by, surpluses_in, charges_in, credits_of, undistributed_of, close_rest, close_number_by, close_number_from, figures_of}
 use Rattle.basis.proofs.Choice.{peel_not, handed_on}
-use Rattle.basis.proofs.Filling.{tab-map}
 use Rattle.close.proofs.Bounds.{charges_at_most, AcceptedClose}
-
-pub length_adjusted : (dmp : ℕ) (xs : List Consumer) → length (adjusted_in dmp xs) ≡ length xs
-unfolding adjusted_in
-length_adjusted dmp xs = length-map xs (adjusted_of dmp (sum (weights_of xs)))
 
 -- DFA by Dreal, that of the undeclared being 0
 pub by_real : (dmp total : ℕ) (d : Declaration) (r : Option ℕ) → declared_real d r * dmp / total ≡ adjusted_by dmp total r d
@@ -129,8 +122,3 @@ accepted-close stage dmp xs p e =
       price = (close-ranged p [] a.0).most;
       within = (peel_not (all_at_most greatest_power (adjusted_in dmp xs)) 13 0 b.1).0;
     }
-
--- a close that is refused returns the old book
-pub refused-close : (b : Book) (p : ℕ) (refusal : Refusal) → refusal_number refusal ≡ close_number b p → replied b (Err refusal) ≡ close_of b p
-unfolding close_of
-refused-close b p refusal e = refused_reply b (closed b p) refusal e

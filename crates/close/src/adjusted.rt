@@ -37,7 +37,7 @@ pub fn real_demands(consumers: &[Consumer; CONSUMERS]) -> [u32; CONSUMERS]
 }
 
 // DFA by Dreal.
-// DMP and ΣD apart: DMP stands in the book, and a run keeps ΣD beside it.
+// DMP and ΣD apart, here and below: DMP stands in the book, and a run keeps ΣD beside it.
 fn adjusted_by(dmp: u32, total: u64, real: u32) -> u64
     ensures { result ≡ real * dmp / total }
 {
@@ -52,7 +52,7 @@ pub(crate) fn is_within(dmp: u32, total: u64, reals: &[u32]) -> bool
     reals.iter().all(|real| adjusted_by(dmp, total, *real) <= u64::from(GREATEST_POWER))
 }
 
-// DFA of each consumer, once none is above the greatest: by places, since that is known of the consumer at each place.
+// DFA of each consumer, once none is above the greatest: by places, since that is known, and asked for here, of the consumer at each place.
 pub(crate) fn adjusted(dmp: u32, total: u64, consumers: &[Consumer; CONSUMERS]) -> [u32; CONSUMERS]
     requires { (k : ℕ) → real_demand (get_or consumers.now k fresh_consumer) * dmp / total ≤ greatest_power }
     ensures { result ≡ map (λ x. real_demand x * dmp / total) consumers.now }

@@ -13,7 +13,7 @@ use state::{Book, CloseFigures, Consumer, Stage, check_open};
 use table::Call;
 
 // The figures of a close at P, once no DFA is above the greatest: a bound that each contract states in its own terms, of a consumer, a list or
-// a figure.
+// a figure. No type of a price in its range: two functions ask for that.
 fn figures(p: u32, dmp: u32, consumers: &[Consumer; CONSUMERS]) -> CloseFigures
     requires { (p ≤ greatest_price) × (all_at_most greatest_power (adjusted_in dmp consumers.now) ≡ true) }
     ensures { result ≡ figures_of p dmp consumers.now }

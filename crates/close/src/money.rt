@@ -44,7 +44,8 @@ fn charge(p: u32, dfa: u32, declaration: Declaration) -> u64
     }
 }
 
-// The charge of each consumer.
+// The charge of each consumer. No type of a price in its range: two functions ask for that; the bound of the DFA stands in this function's
+// terms, place by place.
 pub(crate) fn charges(
     p: u32,
     adjusted: &[u32; CONSUMERS],

@@ -1,5 +1,4 @@
 -- Laws of the calls of a consumer and of a contract.
-pub mod Refusals
 pub mod Rows
 pub mod Settled
 pub mod Acts

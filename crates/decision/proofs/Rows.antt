@@ -2,7 +2,6 @@
 use mathlib.Core.Path.{◌≡◌, refl, ◌∙◌}
 use mathlib.Core.List.{List, [], ◌∷◌}
 use Prim.Native.Nat.{ℕ, zero, suc, ◌+◌, ◌≤◌, ◌<◌}
-use native.Mathlib.Numerals.{add-one}
 use native.Mathlib.Omega.{arith}
 use lib.ListN.{get_or, take, drop}
 use lib.Seq.{get_or-drop, get_or-take}
@@ -15,9 +14,6 @@ passed [] zero = refl
 passed [] (suc i) = refl
 passed (x ∷ l) zero = omega arith
 passed (x ∷ l) (suc i) = omega (arith, sum-cons x (take (suc i) l), sum-cons x (take i l), passed l i)
-
-pub row_next : (l : List ℕ) (from i : ℕ) → sum (take (i + 1) (drop from l)) ≡ sum (take i (drop from l)) + get_or l (from + i) 0
-row_next l from i = rw (add-one, ← get_or-drop from l i 0) (passed (drop from l) i)
 
 -- an element of a row is at most its sum
 pub in_row : (l : List ℕ) (from n i : ℕ) → i < n → get_or l (from + i) 0 ≤ sum (take n (drop from l))

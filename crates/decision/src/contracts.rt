@@ -1,4 +1,5 @@
 // What a call of a contract comes to.
+// The cells are one flat list: see `CELLS` of `state`. Places are made by `as`: std has no From from u32 to usize.
 ghost use Rattle.std.specs.Prelude.{◌≡◌, ◌+◌, ◌-◌, ◌≤◌, length, take, drop};
 ghost use Rattle.basis.specs.Sums.{sum};
 ghost use Rattle.quantities.specs.Limits.{consumers};
@@ -27,7 +28,6 @@ fn sum_of(balances: &[u32]) -> u64
 }
 
 // The sum of the balances of a row.
-// The cells are one flat list: see `CELLS` of `state`. Places are made by `as`: std has no From from u32 to usize.
 fn row_sum(balances: &[u32; CELLS], from: usize) -> u64
     requires { from + consumers ≤ cells }
     ensures { result ≡ sum (take consumers (drop from balances.now)) }
@@ -81,6 +81,7 @@ pub fn contract_answer(
     })?;
     check_stage(stage, Stage::Firm)?;
     check_declared(declaration)?;
+    // Both are in range here, so that no Option of a place is left.
     let row = (producer - 1) as usize;
     let from = row * CONSUMERS;
     let cell = from + (consumer - 1) as usize;

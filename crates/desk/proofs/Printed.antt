@@ -18,7 +18,7 @@ use Rattle.state.specs.declared.kept.Book.{Book}
 use Rattle.state.specs.State.{stage_number}
 use Rattle.page.specs.Page.{text_of, print_number, printed_by, printed_of, printed_in, printed_most, Prints}
 use Rattle.journal.specs.Run.{run_of}
-use Rattle.listing.specs.Listing.{too_long, most_input}
+use Rattle.listing.specs.Listing.{most_input}
 use Rattle.words.specs.Numbers.{said}
 use Rattle.desk.specs.Findings.{findings_of, nothing_read, findings_for}
 use Rattle.desk.specs.Printing.{open_number, page_of, unclosed, page_for, page_findings_for}
@@ -73,11 +73,6 @@ unfolding findings_for
 findings_run input h = rw (le-ltb most_input (length input) h)
 
 module _ (input : List ℕ) where
-  -- the page of an input that is too long, and of another
-  pub page_long : most_input < length input → page_for input ≡ too_long
-  unfolding page_for
-  page_long h = rw (lt-ltb most_input (length input) h)
-
   pub page_run : length input ≤ most_input → page_for input ≡ page_of (run_of input).book
   unfolding page_for
   page_run h = rw (le-ltb most_input (length input) h)

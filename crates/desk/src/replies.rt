@@ -40,7 +40,8 @@ pub fn all_replies(input: &[u8]) -> Rest
 }
 
 // The line of a record whose call was answered.
-// By number: the line shows it, and 0 has words too. The readings are lent beside the call. By `as`: std has no From from usize to u64.
+// By number: the line shows it, and 0 has words too. Place and number apart: a refusal stands in `Refused`, a stop in `Run`. The readings are
+// lent beside the call. By `as`: std has no From from usize to u64.
 #[tactic(auto, unfolding(crate::specs::Replies::reply_line))]
 fn reply_line(place: usize, call: Call, readings: &[u8], number: u32) -> Text<LONGEST_REPLY>
     ensures { result ≡ reply_line place call readings.now number }
@@ -55,7 +56,7 @@ fn reply_line(place: usize, call: Call, readings: &[u8], number: u32) -> Text<LO
 }
 
 // The last line: where and why the reading stopped.
-// By number: 0 and the stops have words too.
+// By number: 0 and the stops have words too. Place and stop apart: they stand in `Run` once a run has ended. By `as`, as above.
 #[tactic(auto, unfolding(crate::specs::Replies::end_line))]
 fn end_line(place: usize, stop: u32) -> Text<LONGEST_REPLY>
     ensures { result ≡ end_line place stop }

@@ -22,7 +22,7 @@ fn offer(hours: Hours, unit: &Unit) -> u32
     unit.enrolment.map_or(0, |entry| firm_offer(entry.plant, hours, unit.components).0)
 }
 
-// The firm offer of each unit.
+// The firm offer of each unit. By places, here and below: a map of the array would take a copy of all units.
 pub(crate) fn offers(hours: Hours, units: &[Unit; UNITS]) -> [u32; UNITS]
     ensures { result ≡ offers_of hours units.now }
 {

@@ -36,7 +36,7 @@ fn has_availability(kind: u32, component: u32) -> bool
     }
 }
 
-// A component, by its number.
+// A component, by its number. Apart from `Part::of` of plant_cases, which refuses other numbers.
 fn component_mut(components: &mut Components, component: u32) -> &mut Component
     ensures* writes_back { sem 𝓛 (LendsComponent components.entry component result) }
     ensures value { result.now ≡ component_in components.old component }

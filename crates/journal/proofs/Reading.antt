@@ -1,5 +1,5 @@
 -- What a record that was read says of the journal, and that what stands behind it does not matter.
-use mathlib.Core.Path.{◌≡◌, refl, sym}
+use mathlib.Core.Path.{◌≡◌, refl}
 use mathlib.Core.Bool.{Bool, true, false}
 use mathlib.Core.List.{List, ◌++◌}
 use Prim.Native.Nat.{ℕ, ◌+◌, ◌-◌, ◌≤◌, ◌<◌}
@@ -32,9 +32,6 @@ module _ (s : List ℕ) (at : ℕ) {from next : ℕ} {c : Call} (e : read_at s a
 
   pub part_more : (more : List ℕ) → part_of (s ++ more) from next ≡ part_of s from next
   part_more more = (read_is_alone s at c from next more e).longer_readings
-
-pub at_end : (s : List ℕ) (at : ℕ) → length s ≤ at → read_at s at ≡ End
-at_end s at h = sym (Rattle.record.proofs.Reader.at_end s at h)
 
 cut_or : (t : Bool) (x : Read) → (x ≡ End → ⊥) → pick t Cut x ≡ End → ⊥
 cut_or true x h e = let z : ◌≡◌ {A = ℕ} 0 1 = cc in omega arith

@@ -41,7 +41,7 @@ impl Ledger {
         }
     }
 
-    // Any call, with the readings lent to a test.
+    // Any call, with the readings lent beside it, since a call is a value.
     #[tactic(auto, using(crate::proofs::Ready::ready_aside), unfolding(book::specs::Step::step_of, gathering::specs::Units::unit_of, gathering::specs::Units::after_unit, decision::specs::ContractCalls::contract_of, decision::specs::ContractCalls::after_contract))]
     pub(crate) fn take(&mut self, call: Call, readings: &[u8]) -> Result<(), Refusal>
         ensures { reply_with (met result) self.new.book ≡ step_of self.old.book call readings.now }
@@ -112,6 +112,7 @@ impl Ledger {
         Ok(())
     }
 
+    // Consumer and act come apart, as the match over the call has them.
     #[tactic(auto, using(crate::proofs::Ready::refused_book), unfolding(decision::specs::Consumers::consumer_of))]
     fn take_consumer(&mut self, consumer: u32, act: ConsumerCall) -> Result<(), Refusal>
         ensures { reply_with (met result) self.new.book ≡ consumer_of self.old.book consumer act }

@@ -10,7 +10,7 @@ use state::Book;
 #[derive(Clone, Copy, Debug, PartialEq, Eq)]
 pub struct Refused {
     pub place: usize,
-    // The number and not the Refusal: C is told it.
+    // The number and not the Refusal: theorems name it, and whoever reads it tells it.
     pub number: u32,
 }
 
@@ -73,7 +73,7 @@ impl Tally {
         self.place = next;
     }
 
-    // The run that ends with the tally and a book, at a stop or without one.
+    // The run that ends with the tally and a book, at a stop or without one. The stop is a number, as in `Run`.
     pub(crate) fn ended(self, book: Book, stop: u32) -> Run
         ensures { result ≡ run_with self book stop }
     {

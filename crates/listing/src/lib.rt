@@ -28,7 +28,7 @@ fn put_whole<const N: usize>(text: &Text<N>, out: &mut [u8]) -> Result<usize, Re
     Ok(bytes.len())
 }
 
-// The listing of a run over the front of out.
+// The listing of a run over the front of out, which the caller lends, as C does.
 pub fn put_listing(run: &Run, out: &mut [u8]) -> Result<usize, Refusal>
     ensures { Lists (listing_of run.now) out.old (filled result) out.new }
 {

@@ -11,7 +11,7 @@ use text::Text;
 // A buyer gives any bytes: a type of shorter inputs would be made and asked in the same line.
 pub const MOST_INPUT: usize = 65_536;
 
-// The line of an input that is too long.
+// The line of an input that is too long, over the caller's buffer too.
 fn put_too_long(out: &mut [u8]) -> Result<usize, Refusal>
     ensures { Lists too_long out.old (filled result) out.new }
 {

@@ -53,7 +53,7 @@ pub(crate) fn put_lines(consumers: &[Consumer; CONSUMERS], closing: &CloseFigure
     requires { bytes_for (length (declared_consumers consumers.now)) ≤ length out.old }
     ensures { out.new ≡ written out.old 0 (pages_of (lines_of consumers.now closing.now.adjusted closing.now.charges closing.now.credits)) }
 {
-    // Counted beside the loop: a second enumerate behind a filter_map is no plainer.
+    // Counted beside the loop: a second enumerate behind a filter_map is no plainer. Its bound: see `size_of`.
     let mut lines = 0;
     for (i, consumer) in consumers.iter().enumerate() {
         let Some(figures) = consumer.declaration.figures() else {

@@ -62,7 +62,7 @@ fn times_minutes(power: Kw, m: Minutes) -> Kw
     Kw((u64::from(power.0) * ready / whole) as u32)
 }
 
-// Power times c, 0 without an availability.
+// Power times c, 0 without an availability. A match with a guard: minutes that do not fit have no c either.
 #[tactic(auto, unfolding(crate::specs::Availability::times_c))]
 pub(crate) fn times_c(power: Kw, availability: Option<Minutes>) -> Kw
     ensures { result ≡ times_c power availability }

@@ -1,4 +1,5 @@
-// The efficient offers of all units.
+// The efficient offers of all units. A year is a number throughout, since it is the number of its flag, and each use asks a unit's flags for
+// it. Flags and offers are two arrays: the offers are the book's, the flags are made of its units.
 ghost use Rattle.std.specs.Prelude.{◌≡◌};
 ghost use Rattle.quantities.specs.Limits.{units};
 ghost use Rattle.plant.specs.Efficient.{counted, efficient_offer, year_sum, chosen_year, efficient_offers, efficient_of};
@@ -6,8 +7,7 @@ ghost use Rattle.plant.specs.Efficient.{counted, efficient_offer, year_sum, chos
 use quantities::{FIRST_YEAR, FORCED_GENERATION, SECOND_YEAR, UNITS, is_flagged};
 use std::array;
 
-// The simulated year that was chosen, 1 or 2, and each unit's efficient offer in kW. A year is a number, since it is the number of its flag;
-// the offers are an array of figures, as the book keeps them.
+// The simulated year that was chosen, 1 or 2, and each unit's efficient offer in kW.
 #[derive(Clone, Copy, Debug, PartialEq, Eq)]
 pub struct Efficient {
     pub year: u32,
@@ -61,7 +61,7 @@ fn offers_in(year: u32, flags: &[u32; UNITS], offers: &[u32; UNITS]) -> [u32; UN
     array::from_fn(|i| efficient_offer(year, flags[i], offers[i]))
 }
 
-// The year chosen and the efficient offers, from each unit's flags and offer: two arrays, since a caller holds them as two.
+// The year chosen and the efficient offers, from each unit's flags and offer.
 pub fn efficient_offers(flags: [u32; UNITS], offers: [u32; UNITS]) -> Efficient
     ensures { result ≡ efficient_of units flags offers }
 {

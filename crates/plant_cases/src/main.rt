@@ -64,6 +64,7 @@ fn answer<W: Write>(out: &mut W, alloc: Global, unit: &mut Unit, line: Line) -> 
                 .iter()
                 .flat_map(|reading| reading.to_le_bytes())
                 .collect::<Vec<u8>>(alloc)?;
+            // By `as`: std has no From from u32 to usize.
             let lent = bytes.get(..length as usize).ok_or(ErrorKind::InvalidData)?;
             let component = part.of(&mut unit.components);
             let tested = test(*component, unit.cap, trial, lent);

@@ -121,10 +121,11 @@ pub fn least_count(tc: u32) -> u32
     if tc < LEAST_TIME || GREATEST_TIME < tc {
         return 0;
     }
+    // By `as`: a usize has no From from a u32.
     card()[(tc - LEAST_TIME) as usize]
 }
 
-// The count of a test reaches 80 % of its TC.
+// The count of a test reaches 80 % of its TC. No type of a full time in its range: two functions ask for that.
 pub(crate) fn reached(trial: Trial) -> bool
     requires { (least_time ≤ trial.tc) × (trial.tc ≤ greatest_time) }
     ensures { result ≡ reaches trial.count trial.tc }

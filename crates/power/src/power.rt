@@ -19,7 +19,7 @@ pub fn maximum_power(x: Component) -> Kw
     x.result.unwrap_or(Kw(0))
 }
 
-// The count fits the ending: TC where complete, less where tripped.
+// The count fits the ending, which is a number as in `Trial`: TC where complete, less where tripped.
 fn count_fits(trial: Trial) -> bool
     ensures { result ≡ count_fits trial.ending trial.tc trial.count }
 {
@@ -52,7 +52,8 @@ fn energy_of(readings: &[[u8; 4]]) -> Kwh
 }
 
 // What a test gives, nothing where it is void. trip: the component's last ending-2 test was void, with no result since. The ending stays a
-// number: an enum would be made of what test_in_range has tested, for three functions.
+// number: an enum would be made of what test_in_range has tested, for three functions. No type of a full time in its range: two functions
+// ask for that.
 #[tactic(auto, unfolding(crate::specs::Power::measured_of))]
 fn measured_of(trip: bool, trial: Trial, energy: Kwh) -> Option<Kw>
     requires { (least_time ≤ trial.tc) × (trial.tc ≤ greatest_time) }
@@ -73,7 +74,7 @@ fn capped(cap: Option<Kw>, power: Kw) -> Kw
     cap.map_or(power, |most| least(power, most))
 }
 
-// A component after an accepted test.
+// A component after an accepted test, whose ending is a number as in `Trial`. A match: each case has a component of its own.
 #[tactic(auto, unfolding(crate::specs::Power::after_test))]
 fn after_test(cap: Option<Kw>, ending: u32, old: Component, measured: Option<Kw>) -> Component
     ensures { result ≡ after_test cap ending old measured }

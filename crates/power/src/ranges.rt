@@ -17,7 +17,7 @@ fn readings_in_range(readings: &[[u8; 4]]) -> bool
     readings.iter().all(|bytes| u64::from(u32::from_le_bytes(*bytes)) <= GREATEST_READING)
 }
 
-// A test's ending, TC, count, lent length and readings are in range.
+// A test's ending, TC, count, lent length and readings are in range. The count is widened by `as`: a usize has no From from a u32.
 #[tactic(auto, using(crate::proofs::Readings::all_readings))]
 pub fn test_in_range(trial: Trial, readings: &[u8]) -> bool
     ensures { result ≡ test_in_range trial.ending trial.tc trial.count readings.now }

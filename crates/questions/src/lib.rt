@@ -92,10 +92,10 @@ pub fn producer_totals(book: &Book, producer: u32) -> Option<Totals>
 pub fn declaration_of(book: &Book, consumer: u32) -> Declaration
     ensures { (result ≡ declaration_of book.now consumer) × (declaration_values result ≡ declaration_figures book.now consumer) }
 {
-    match place_among(CONSUMERS, consumer) {
-        None => Declaration::Undeclared,
-        Some(place) => book.consumers[place].declaration,
-    }
+    place_among(CONSUMERS, consumer).map_or(
+        Declaration::Undeclared,
+        |place| book.consumers[place].declaration,
+    )
 }
 
 // The difference of two figures.

@@ -11,7 +11,7 @@ use quantities::Refusal;
 use table::{Call, UnitCall, check_fields};
 use unused::unused_zero;
 
-// What the ranges of single fields leave: a unit's unused fields, and a test's lent readings.
+// What the ranges of single fields leave: a unit's unused fields, and a test's readings, lent beside the call, which is a value.
 #[tactic(auto, unfolding(table::specs::Ranges::rest_in_range))]
 fn rest_in_range(call: Call, readings: &[u8]) -> bool
     ensures { result ≡ rest_in_range call readings.now }

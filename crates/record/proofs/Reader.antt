@@ -1,6 +1,6 @@
 -- What stands at a place, case by case.
 use mathlib.Core.Path.{◌≡◌, ap, ◌∙◌}
-use mathlib.Core.List.{List, []}
+use mathlib.Core.List.{List}
 use Prim.Native.Nat.{ℕ, ◌+◌, ◌-◌, ◌≤◌, ◌<◌}
 use native.Mathlib.Omega.{arith}
 use borrow.Author.Tests.{le-leb, lt-leb, lt-ltb, le-ltb}
@@ -71,14 +71,6 @@ module _ (s : List ℕ) (at : ℕ) (m : Mark) (size : ℕ) (type_size : size ≡
     whole-record k =
         rw (type_size, en)
         (rw (le-ltb (length s - at) ((form_of m).size + readings_size c) (omega (arith, type_size))) at read-call)
-
-pub no_part : (s : List ℕ) (from to : ℕ) → to < from → [] ≡ part_of s from to
-unfolding part_of
-no_part s from to h = rw (lt-leb from to h)
-
-pub long_part : (s : List ℕ) (from to : ℕ) → from ≤ to → length s < to → [] ≡ part_of s from to
-unfolding part_of
-long_part s from to h k = rw (le-leb from to h, lt-leb to (length s) k)
 
 pub part_of_lem : (s : List ℕ) (from to : ℕ) → from ≤ to → to ≤ length s → take (to - from) (drop from s) ≡ part_of s from to
 unfolding part_of

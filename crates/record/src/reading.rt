@@ -63,7 +63,7 @@ fn read_each(journal: &[u8], at: usize, mark: Mark) -> Read
     }
 }
 
-// What stands at a place of a journal; any journal and any place are taken.
+// What stands at a place of a journal; any journal and any place are taken. Each case has an answer of its own: a match, and no map.
 #[tactic(auto, using(crate::proofs::Reader::at_end, crate::proofs::Reader::at_one))]
 pub fn read_at(journal: &[u8], at: usize) -> Read
     ensures { result ≡ read_at journal.now at }

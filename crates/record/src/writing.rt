@@ -19,7 +19,7 @@ pub fn record_size(call: Call) -> usize
     fields_of(call).form.size + readings_size(call)
 }
 
-// A call's record, over what stands at the start of out.
+// A call's record, over what stands at the start of out. The readings are lent beside the call, which is a value.
 fn put_record(call: Call, readings: &[u8], out: &mut [u8])
     requires { (call_number call readings.now ≡ 0) × (record_size call ≤ length out.old) }
     ensures { out.new ≡ written out.old 0 (record_of call readings.now) }

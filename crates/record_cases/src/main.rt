@@ -12,7 +12,7 @@ use std::fmt;
 use std::io::{self, BufWriter, Read as _, Write};
 use table::fields_of;
 
-// The items of an input, up to the first that is cut short.
+// The items of an input, up to the first that is cut short. An iterator is neither copied nor compared.
 #[derive(Drop)]
 struct Items<'a>(&'a [u8]);
 
@@ -29,7 +29,7 @@ impl<'a> Iterator for Items<'a> {
     }
 }
 
-// Each byte as two hexadecimal digits.
+// Each byte as two hexadecimal digits. It is only printed.
 #[derive(Drop)]
 struct Hex<'a>(&'a [u8]);
 

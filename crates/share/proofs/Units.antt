@@ -162,9 +162,5 @@ pub give_next : (n given k : ℕ) (a r : List ℕ) → given < n → k ≡ large
 unfolding give
 give_next n given k a r h e = let m : n - given ≡ suc (n - (given + 1)) = omega arith in rw (m, e)
 
-pub give_none : (a r : List ℕ) → give 0 a r ≡ a
-unfolding give
-give_none a r = refl
-
 -- one turn of the loop over the units
 pub ruleset giving = (give_next, sum-set)

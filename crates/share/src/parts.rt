@@ -22,7 +22,8 @@ pub(crate) fn sum_of(weights: &[u64]) -> u64
 }
 
 // The whole parts into the amounts, what they leave of each product into the rest; answers the units left over. Two slices, no slice
-// of pairs: the amounts are the caller's, the rest is room to work in of fixed size.
+// of pairs: the amounts are the caller's, the rest is room to work in of fixed size. No type of the weights that a division takes: two
+// functions ask for them.
 #[tactic(auto, using(crate::proofs::Accepted::product_fits, crate::proofs::Quotients::turn), unfolding(crate::specs::Division::whole_parts, crate::specs::Division::remainders))]
 pub(crate) fn whole_parts(
     total: u64,
@@ -61,7 +62,7 @@ pub(crate) fn largest_of(rest: &[u64]) -> usize
         .unwrap_or(rest.len())
 }
 
-// Gives the units left over singly to the largest of the rest, which is then struck.
+// Gives the units left over singly to the largest of the rest, which is then struck. Two slices, as above.
 #[tactic(auto, using(crate::proofs::Units::giving), unfolding(crate::specs::Division::give))]
 pub(crate) fn give_left(left: u64, amounts: &mut [u64], rest: &mut [u64])
     requires amounts_len { (length amounts.old ≡ length rest.old) × (0 < length rest.old) }
@@ -76,7 +77,7 @@ pub(crate) fn give_left(left: u64, amounts: &mut [u64], rest: &mut [u64])
 }
 
 // The amounts of an accepted division, one for each weight. Two slices, no slice of pairs: the amounts are the caller's, the rest is
-// room to work in of fixed size.
+// room to work in of fixed size. No type of the weights that a division takes: two functions ask for them.
 pub(crate) fn share_out(total: u64, weights: &[u64], amounts: &mut [u64], rest: &mut [u64])
     requires amounts_value { division_number total weights.now (length amounts.old) ≡ 0 }
     requires amounts_len { (length amounts.old ≡ length weights.now) × (length rest.old ≡ length weights.now) }

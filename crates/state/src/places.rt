@@ -28,7 +28,7 @@ pub fn unit_place(unit: u32) -> usize
     place_of(UNITS, unit)
 }
 
-// The place of a consumer.
+// The place of a consumer. No const parameter, as above.
 pub fn consumer_place(consumer: u32) -> usize
     ensures { (result ≡ place_of consumers consumer) × (result < consumers) }
 {

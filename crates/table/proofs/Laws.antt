@@ -1,6 +1,6 @@
 -- What holds of each record of the table and of each call, and what a call in range shows of a field.
-use mathlib.Core.Path.{◌≡◌, refl}
-use mathlib.Core.Bool.{Bool, true, false}
+use mathlib.Core.Path.{◌≡◌}
+use mathlib.Core.Bool.{Bool, true}
 use mathlib.Core.List.{List}
 use Prim.Native.Nat.{ℕ, ◌+◌, ◌*◌, ◌≤◌, ◌<◌}
 use native.Mathlib.Omega.{arith}
@@ -74,15 +74,6 @@ unfolding fields_number call_number
 in_range c rs e =
     let h = handed_on (fields_number c) (pick (rest_in_range c rs) 0 3) e in
     ((peel_not (fields_in_range c) 2 0 h.0).0, (peel_not (rest_in_range c rs) 2 0 h.1).0)
-
--- the single fields suffice where nothing else can be out of range
-pub fields_suffice : (c : Call) (rs : List ℕ) → rest_in_range c rs ≡ true → fields_number c ≡ call_number c rs
-unfolding fields_number call_number
-fields_suffice c rs e = go (fields_in_range c)
-  where
-    go : (t : Bool) → ◌≡◌ {A = ℕ} (pick t 0 3) (pick (eqb (pick t 0 3) 0) (pick (rest_in_range c rs) 0 3) (pick t 0 3))
-    go true = rw e
-    go false = refl
 
 -- the lent length of a test in range is that of its count
 pub test-length : (ending tc count : ℕ) (rs : List ℕ) → test_in_range ending tc count rs ≡ true → length rs ≡ 4 * count

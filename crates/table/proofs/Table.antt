@@ -1,4 +1,4 @@
--- What each line of the table of records shows, and each call; what a call of the whole book in range shows of its fields.
+-- What each line of the table of records shows, and each call; what a fix and a close in range show of their field.
 use mathlib.Core.Path.{◌≡◌, refl, sym, ap, ◌∙◌}
 use mathlib.Core.Bool.{Bool, true, false, cond}
 use mathlib.Core.List.{List, [], ◌∷◌}
@@ -12,8 +12,7 @@ use Rattle.std.specs.List.{find}
 use Rattle.basis.specs.Numbers.{number}
 use Rattle.basis.specs.Sums.{sum}
 use Rattle.basis.proofs.Sums.{all_at_most_lem}
-use Rattle.power.specs.declared.component.Hours.{Hours}
-use Rattle.quantities.specs.Limits.{greatest_power, greatest_hours, greatest_day_hours, greatest_price}
+use Rattle.quantities.specs.Limits.{greatest_power, greatest_price}
 use Rattle.table.specs.Fields.{decode}
 use Rattle.table.specs.Records.{widest, table_of, widths_of, marks, mark_at, form_of, parts_of, call_of, fields_size, readings_size}
 use Rattle.table.specs.Ranges.{rest_in_range, call_number}
@@ -80,18 +79,7 @@ of_parts (Consumer consumer (Meter dreal)) = record { again = λ e. refl; count 
 of_parts (Contract producer consumer (Commit q)) = record { again = λ e. refl; count = refl; lent = λ rs e. omega arith }
 of_parts (Contract producer consumer (Release q)) = record { again = λ e. refl; count = refl; lent = λ rs e. omega arith }
 
--- what a call of the whole book in range shows of its fields
-pub record YearRanged (h : Hours) : Type 0 where
-  pub nhrm : Numbered greatest_hours h.nhrm
-  pub nhmd : Numbered greatest_hours h.nhmd
-  pub ndhmd : Numbered greatest_day_hours h.ndhmd
-
-pub year-ranged : (h : Hours) (rs : List ℕ) → call_number (Year h) rs ≡ 0 → YearRanged h
-unfolding table_of parts_of
-year-ranged h rs e =
-    let f = field_in_range (Year h) (lawful mark.Year) (of_parts (Year h)) rs e in
-    record { nhrm = numbered (f 0 (omega arith)); nhmd = numbered (f 1 (omega arith)); ndhmd = numbered (f 2 (omega arith)) }
-
+-- what a fix and a close in range show of their field
 pub fix-ranged : (dmp : ℕ) (rs : List ℕ) → call_number (Fix dmp) rs ≡ 0 → Numbered greatest_power dmp
 unfolding table_of parts_of
 fix-ranged dmp rs e = numbered (field_in_range (Fix dmp) (lawful mark.Fix) (of_parts (Fix dmp)) rs e 0 (omega arith))

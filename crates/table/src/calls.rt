@@ -75,6 +75,7 @@ impl From<Parts> for Call {
                 act: ConsumerCall::Declare { d, a },
             },
             (Mark::Fix, [dmp, ..]) => Call::Fix { dmp },
+            // Commit and release apart: each call has its arm, as its record has a mark of its own.
             (Mark::Commit, [producer, consumer, q, ..]) => Call::Contract {
                 producer,
                 consumer,

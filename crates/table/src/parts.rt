@@ -76,6 +76,7 @@ impl From<Call> for Parts {
                 mark: Mark::Meter,
                 values: [consumer, dreal, 0, 0, 0, 0, 0, 0, 0],
             },
+            // Commit and release apart: each call has its arm, as its record has a mark of its own.
             Call::Contract {
                 producer,
                 consumer,

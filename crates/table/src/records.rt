@@ -84,7 +84,7 @@ pub fn call_of(mark: Mark, fields: &[u8]) -> Call
     Parts { mark, values }.into()
 }
 
-// The bytes of a call's readings: only a test has some.
+// The bytes of a call's readings: only a test has some. By `as`: std has no From from u32 to usize.
 #[tactic(auto, unfolding(crate::specs::Records::readings_size, crate::specs::Records::parts_of, crate::specs::Records::table_of))]
 pub fn readings_size(call: Call) -> usize
     ensures value { result ≡ readings_size call }

@@ -84,7 +84,7 @@ fn fields_text(fields: Fields) -> Text<LONGEST_FIELDS>
     text
 }
 
-// The readings that the bytes hold, four bytes each: at most as many as a test in range has.
+// The readings that the bytes hold, four bytes each: at most as many as a test in range has. By `as`: std has no From from u32 to usize.
 fn readings_text(readings: &[u8]) -> Text<LONGEST_READINGS>
     ensures { result ≡ readings_text readings.now }
 {

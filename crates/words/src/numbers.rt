@@ -1,4 +1,5 @@
 // The numbered replies in words.
+// By number throughout: 0 and the stops 1 and 2 have words as the refusals have, and what a run tells is a number already.
 ghost use Rattle.std.specs.Prelude.{◌≡◌, ◌≤◌, length};
 ghost use Rattle.words.specs.Numbers.{meaning, numbered, said, at_place};
 ghost use Rattle.words.specs.Conditions.{condition, condition_line};
@@ -21,7 +22,6 @@ struct Words {
 }
 
 // The words of a number; none where there is no such number.
-// By number: 0 and the stops 1 and 2 have words as the refusals have, and what a run tells is a number already.
 #[tactic(auto, unfolding(crate::specs::Numbers::meaning, crate::specs::Numbers::meanings, crate::specs::Conditions::condition, crate::specs::Conditions::conditions))]
 fn words_of(number: u32) -> Words
     ensures meaning { result.meaning.now ≡ meaning number }
@@ -130,7 +130,7 @@ pub fn condition_line(number: u32) -> Text<LONGEST_SAID>
     numbered(number, words_of(number).condition)
 }
 
-// A place, a colon, and what is said of it.
+// A place, a colon, and what is said of it. Place and number apart: a refusal stands in `Refused`, a stop in `Run`.
 // By `as`: std has no From from usize to u64.
 #[tactic(auto, unfolding(crate::specs::Numbers::at_place))]
 pub fn at_place(place: usize, number: u32) -> Text<LONGEST_AT_PLACE>

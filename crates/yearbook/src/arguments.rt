@@ -42,7 +42,7 @@ impl From<&[u8]> for Word {
 }
 
 // What the arguments ask for: the words, or what is printed of a journal, of standard input where no file is named.
-#[derive(Clone, Copy)]
+#[derive(Clone, Copy, Debug, PartialEq, Eq)]
 pub enum Request<'a> {
     Help,
     Print {

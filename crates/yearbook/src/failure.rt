@@ -12,6 +12,7 @@ const MOST_WORDS: usize = 128;
 #[derive(Clone, Copy, Debug, PartialEq, Eq)]
 pub struct ReaderLeft;
 
+// No Eq, nor have words: io::Error has none.
 #[derive(Clone, Copy)]
 pub enum Failure<'a> {
     ReaderLeft,

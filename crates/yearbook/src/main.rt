@@ -31,6 +31,7 @@ Where the program ends by itself, standard error is empty exactly when all was r
 ";
 
 // What is asked for, of a reader that the name stands for. One byte more than is taken is read, so that longer input is known.
+// By `as`: std has no From from usize to u64.
 fn answer_reader<'a, R: Read + Drop>(
     rt: &HostRuntime,
     asked: Asked,

@@ -20,7 +20,7 @@ pub struct Named {
     pub number: u64,
 }
 
-// A match: each case has figures of its own.
+// A match: each case has figures of its own. By `as`: std has no From from usize to u64.
 fn named_of(first: Option<Refused>) -> Named
     ensures { result ≡ named_of first }
 {

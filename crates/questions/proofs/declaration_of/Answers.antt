@@ -4,10 +4,6 @@ use Rattle.questions.specs.Questions.{declaration_of}
 use Rattle.questions.proofs.Values.{declaration_told}
 use Rattle.questions.proofs.declaration_of.Goals as goal
 
-pub returns-in-None : goal.returns-in-None
+pub returns : goal.returns
 unfolding declaration_of
-returns-in-None c = declaration_told _ _ (search rules)
-
-pub returns-in-Some : goal.returns-in-Some
-unfolding declaration_of
-returns-in-Some c = declaration_told _ _ (search rules)
+returns c = declaration_told _ _ (search rules)

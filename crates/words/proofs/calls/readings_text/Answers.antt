@@ -1,22 +1,13 @@
-use Rattle.std.proofs.Common.{◌<◌, length, take, ap, sym, ◌∙◌, arith, lit<}
+use Rattle.std.proofs.Common.{ap, sym, ◌∙◌}
 use Rattle.std.specs.Int.{from_le_bytes, w32}
 use Rattle.std.specs.List.{flat_map}
 use Rattle.std.proofs.lemmas.Iterator.{YieldsList-from_slice, YieldsList-from_take}
-use Rattle.std.proofs.lemmas.Iterator.Consumers.{YieldsList-turn, YieldsList-end}
-use Rattle.std.proofs.lemmas.List.{length-take}
+use Rattle.std.proofs.lemmas.Iterator.Consumers.{YieldsList-end}
 use Rattle.std.proofs.lemmas.List.Folds.{flat_map-map}
 use Rattle.quantities.specs.Limits.{greatest_count}
 use Rattle.words.specs.Calls.{value_text}
 use Rattle.words.proofs.Readings.{chunks, readings_of_chunks}
 use Rattle.words.proofs.calls.readings_text.Goals as goal
-
-pub push_text-requires : goal.push_text-requires
-push_text-requires c =
-    let all = chunks c.args.readings.now in
-    let here : length c.loop-reading.yielded < length (take greatest_count all) =
-    (YieldsList-turn (YieldsList-from_take greatest_count (YieldsList-from_slice all cc) cc) c.loop-reading.yielded _ c.loop-reading.yielded_by _ c.next.new.self _ c.in-Some.is c.next.ensures.steps).0
-    in
-    (lit< tt, (lit< tt, omega (arith, length-take greatest_count all)))
 
 pub returns : goal.returns
 returns c =

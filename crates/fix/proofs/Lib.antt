@@ -1,2 +1,0 @@
--- Laws of the fix.
-pub mod FixLaws

@@ -1,2 +1,0 @@
--- What the checker checks of the functions for C.
-pub mod Told
