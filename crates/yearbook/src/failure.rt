@@ -12,7 +12,7 @@ const MOST_WORDS: usize = 128;
 #[derive(Clone, Copy, Debug, PartialEq, Eq)]
 pub struct ReaderLeft;
 
-// No Eq, nor have words: io::Error has none.
+// Not compared, nor are `Words` below: io::Error has no equality.
 #[derive(Clone, Copy)]
 pub enum Failure<'a> {
     ReaderLeft,
