@@ -1,19 +1,12 @@
 -- The sum of a producer's balances.
-use mathlib.Core.Path.{◌≡◌, refl, ◌∙◌}
-use mathlib.Core.List.{List, [], ◌∷◌}
-use Prim.Native.Nat.{ℕ, zero, suc, ◌+◌, ◌≤◌, ◌<◌}
+use mathlib.Core.Path.{◌≡◌, ◌∙◌}
+use mathlib.Core.List.{List}
+use Prim.Native.Nat.{ℕ, ◌+◌, ◌≤◌, ◌<◌}
 use native.Mathlib.Omega.{arith}
 use lib.ListN.{get_or, take, drop}
 use lib.Seq.{get_or-drop, get_or-take}
 use Rattle.basis.specs.Sums.{sum}
-use Rattle.basis.proofs.Sums.{sum-cons, at_most_sum}
-
--- one element more, also behind the end
-passed : (l : List ℕ) (i : ℕ) → sum (take (suc i) l) ≡ sum (take i l) + get_or l i 0
-passed [] zero = refl
-passed [] (suc i) = refl
-passed (x ∷ l) zero = omega arith
-passed (x ∷ l) (suc i) = omega (arith, sum-cons x (take (suc i) l), sum-cons x (take i l), passed l i)
+use Rattle.basis.proofs.Sums.{at_most_sum}
 
 -- an element of a row is at most its sum
 pub in_row : (l : List ℕ) (from n i : ℕ) → i < n → get_or l (from + i) 0 ≤ sum (take n (drop from l))
