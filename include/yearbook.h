@@ -69,6 +69,25 @@ extern "C" {
 #define YEARBOOK_SHORT 15 /* the buffer is too short for text or figures */
 
 /*
+ * The other numbers, as yearbook_run tells them: why the reading stopped, and
+ * what the first refused record met, which may be YEARBOOK_STAGE too.
+ */
+#define YEARBOOK_CUT_SHORT 1       /* record cut short: a stop */
+#define YEARBOOK_UNKNOWN_MARK 2    /* unknown mark: a stop */
+#define YEARBOOK_RANGE 3           /* field outside its range */
+#define YEARBOOK_ENROLLED 5        /* unit already enrolled */
+#define YEARBOOK_NOT_ENROLLED 6    /* unit not enrolled */
+#define YEARBOOK_COMPONENT 7       /* component foreign to kind */
+#define YEARBOOK_COUNT 8           /* count of readings against the full time */
+#define YEARBOOK_MINUTES 9         /* minutes that cannot be */
+#define YEARBOOK_UNDECLARED 10     /* consumer not declared */
+#define YEARBOOK_OFFERS 11         /* above the producer's efficient offers */
+#define YEARBOOK_BALANCE 12        /* above the pair's balance */
+#define YEARBOOK_NO_WEIGHT 13      /* weights sum to 0 */
+#define YEARBOOK_ADJUSTED 14       /* adjusted demand above 3,000,000 kW */
+#define YEARBOOK_NO_REAL_DEMAND 16 /* consumer without a reading or a mean */
+
+/*
  * Each function takes a journal and a buffer. yearbook_list and yearbook_page
  * write a text, and take besides a pointer to where its length in bytes is
  * told; the text has no 0 byte at its end. yearbook_run writes the figures of

@@ -1,6 +1,6 @@
-//! The book and its ten calls.
+//! The book and its eleven calls.
 
-use crate::call::{Availability, Call, Contract, Declare, Meter, Test, Unit, Year};
+use crate::call::{Availability, Call, Contract, Declare, Mean, Meter, Test, Unit, Year};
 use crate::charge::{self, Settlement};
 use crate::number::Number;
 use crate::offer;
@@ -34,13 +34,21 @@ pub struct Producer {
     pub balances: [u64; CONSUMERS],
 }
 
-/// 01 "The book": a declared consumer, no reading being 0.
+/// 01 "The book", 02 "A4": a declared consumer, the last reading and the last mean if there is one.
 #[derive(Clone, Copy, Debug, PartialEq, Eq)]
 pub struct Consumer {
     pub d: u32,
     pub a: u32,
     pub firm: u64,
-    pub dreal: u32,
+    pub reading: Option<u32>,
+    pub mean: Option<u32>,
+}
+
+impl Consumer {
+    /// 02 "A4": Dreal, the mean where it stands, whether or not a reading exists, else the reading.
+    pub fn dreal(&self) -> Option<u32> {
+        self.mean.or(self.reading)
+    }
 }
 
 /// 01 "The book": all that the calls have entered.
@@ -82,7 +90,7 @@ pub fn stage_of(call: &Call) -> Stage {
     match call {
         Call::Year(_) => Stage::Blank,
         Call::Unit(_) | Call::Test(_) | Call::Availability(_) | Call::Declare(_) | Call::Fix(_) => Stage::Gathering,
-        Call::Commit(_) | Call::Release(_) | Call::Meter(_) | Call::Close(_) => Stage::Firm,
+        Call::Commit(_) | Call::Release(_) | Call::Meter(_) | Call::Close(_) | Call::Mean(_) => Stage::Firm,
     }
 }
 
@@ -106,6 +114,7 @@ impl Book {
             Call::Release(contract) => self.release(*contract),
             Call::Meter(meter) => self.meter(*meter),
             Call::Close(price) => self.close(*price),
+            Call::Mean(mean) => self.mean(*mean),
         }
     }
 
@@ -149,7 +158,8 @@ impl Book {
 
     /// 01 "The book": a later declaration replaces the earlier.
     fn declare(&mut self, declare: Declare) -> Result<(), Number> {
-        self.consumers[at(declare.consumer)] = Some(Consumer { d: declare.d, a: declare.a, firm: 0, dreal: 0 });
+        let Declare { consumer, d, a } = declare;
+        self.consumers[at(consumer)] = Some(Consumer { d, a, firm: 0, reading: None, mean: None });
         Ok(())
     }
 
@@ -186,7 +196,7 @@ impl Book {
         }
     }
 
-    /// 01 "Numbered replies", 10: the consumer of a commit, release or meter is declared.
+    /// 01 "Numbered replies", 10: the consumer of a commit, release, meter or mean is declared.
     fn declared_consumer(&mut self, consumer: u8) -> Result<&mut Consumer, Number> {
         self.consumers[at(consumer)].as_mut().ok_or(Number::Undeclared)
     }
@@ -220,11 +230,17 @@ impl Book {
 
     /// 01 "The book": a later reading replaces the earlier; meets 10.
     fn meter(&mut self, meter: Meter) -> Result<(), Number> {
-        self.declared_consumer(meter.consumer)?.dreal = meter.dreal;
+        self.declared_consumer(meter.consumer)?.reading = Some(meter.dreal);
         Ok(())
     }
 
-    /// 01 "Close" (2.6.5.2): nothing is put in the book until every check has passed; meets 14.
+    /// 02 "A4": a later mean replaces the earlier; meets 10.
+    fn mean(&mut self, mean: Mean) -> Result<(), Number> {
+        self.declared_consumer(mean.consumer)?.mean = Some(mean.mean);
+        Ok(())
+    }
+
+    /// 01 "Close" (2.6.5.2): nothing is put in the book until every check has passed; meets 16, 14.
     fn close(&mut self, price: u16) -> Result<(), Number> {
         self.settlement = charge::settle(&self.consumers, self.declared, self.dmp, price)?;
         self.stage = Stage::Closed;

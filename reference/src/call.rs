@@ -1,4 +1,4 @@
-//! The ten calls and the forms of their records.
+//! The eleven calls and the forms of their records.
 
 use crate::field::{self, Field};
 use crate::plant::{Minutes, PowerTest};
@@ -82,7 +82,14 @@ pub struct Meter {
     pub dreal: u32,
 }
 
-/// 01 "Journal records": the calls of the table; fix gives DMP in kW, close P in cents per kW-month.
+/// 02 "A4": the mean of a consumer's daily maxima at the system's peak hours, in kW.
+#[derive(Clone, Copy, Debug, PartialEq, Eq)]
+pub struct Mean {
+    pub consumer: u8,
+    pub mean: u32,
+}
+
+/// 01 "Journal records", 02 "A4": the calls of the table; fix gives DMP in kW, close P in cents per kW-month.
 #[derive(Clone, Copy, Debug, PartialEq, Eq)]
 pub enum Call<'a> {
     Year(Year),
@@ -95,6 +102,7 @@ pub enum Call<'a> {
     Release(Contract),
     Meter(Meter),
     Close(u16),
+    Mean(Mean),
 }
 
 /// 01 "Journal records": one row of the table, the mark, the call's name and its fields, a test's without its readings.
@@ -132,8 +140,8 @@ const OF_AVAILABILITY: &[Field] = &[field::UNIT, field::COMPONENT, field::HD, fi
 /// 01 "Journal records": the fields of commit and of release.
 const OF_CONTRACT: &[Field] = &[field::PRODUCER, field::CONSUMER, field::Q];
 
-/// 01 "Journal records": the table.
-pub static FORMS: [Form; 10] = [
+/// 01 "Journal records", 02 "A4": the table.
+pub static FORMS: [Form; 11] = [
     form([0x59, 0x52], "year", &[field::NHRM, field::NHMD, field::NDHMD]),
     form([0x55, 0x4E], "unit", OF_UNIT),
     form([0x54, 0x53], "test", OF_TEST),
@@ -144,6 +152,7 @@ pub static FORMS: [Form; 10] = [
     form([0x52, 0x4C], "release", OF_CONTRACT),
     form([0x4D, 0x54], "meter", &[field::CONSUMER, field::DREAL]),
     form([0x43, 0x4C], "close", &[field::P]),
+    form([0x41, 0x54], "mean", &[field::CONSUMER, field::MEAN]),
 ];
 
 impl Call<'_> {
@@ -160,6 +169,7 @@ impl Call<'_> {
             Call::Release(_) => 7,
             Call::Meter(_) => 8,
             Call::Close(_) => 9,
+            Call::Mean(_) => 10,
         };
         &FORMS[row]
     }
@@ -183,6 +193,7 @@ impl Call<'_> {
             Call::Commit(c) | Call::Release(c) => vec![c.producer.into(), c.consumer.into(), c.q],
             Call::Meter(m) => vec![m.consumer.into(), m.dreal],
             Call::Close(p) => vec![(*p).into()],
+            Call::Mean(m) => vec![m.consumer.into(), m.mean],
         }
     }
 }

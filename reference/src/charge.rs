@@ -22,22 +22,22 @@ impl Default for Settlement {
     }
 }
 
-/// 01 "Close" (2.6.5.2): the figures of the declared consumers, `declared` being the sum of D; meets 14.
+/// 01 "Close" (2.6.5.2): the figures of the declared consumers, `declared` being the sum of D; meets 16, then 14.
 pub fn settle(
     consumers: &[Option<Consumer>; CONSUMERS],
     declared: u64,
     dmp: u32,
     price: u16,
 ) -> Result<Settlement, Number> {
+    if consumers.iter().flatten().any(|consumer| consumer.dreal().is_none()) {
+        return Err(Number::NoRealDemand);
+    }
+    let adjusted = adjusted_demands(consumers, declared, dmp)?;
     let mut settlement = Settlement::default();
     let mut weights = [0; CONSUMERS];
     for (place, consumer) in consumers.iter().enumerate() {
         let Some(consumer) = consumer else { continue };
-        let adjusted = adjusted_demand(consumer, declared, dmp);
-        if adjusted > u128::from(MOST_KW) {
-            return Err(Number::Adjusted);
-        }
-        let adjustment = consumer.firm as i64 - adjusted as i64;
+        let adjustment = consumer.firm as i64 - i64::from(adjusted[place]);
         let charge = charge(consumer, adjustment, price);
         settlement.adjustments[place] = adjustment;
         settlement.cents[place] = -(charge as i64);
@@ -57,9 +57,22 @@ pub fn settle(
     Ok(settlement)
 }
 
-/// 01 "Close" (2.6.5.2): DFA = Dreal·DMP / ΣD.
-fn adjusted_demand(consumer: &Consumer, declared: u64, dmp: u32) -> u128 {
-    u128::from(consumer.dreal) * u128::from(dmp) / u128::from(declared)
+/// 01 "Close" (2.6.5.2): DFA = Dreal·DMP / ΣD of the consumers that have a Dreal, by their places; meets 14.
+fn adjusted_demands(
+    consumers: &[Option<Consumer>; CONSUMERS],
+    declared: u64,
+    dmp: u32,
+) -> Result<[u32; CONSUMERS], Number> {
+    let mut adjusted = [0; CONSUMERS];
+    for (place, consumer) in consumers.iter().enumerate() {
+        let Some(dreal) = consumer.and_then(|consumer| consumer.dreal()) else { continue };
+        let quotient = u128::from(dreal) * u128::from(dmp) / u128::from(declared);
+        if quotient > u128::from(MOST_KW) {
+            return Err(Number::Adjusted);
+        }
+        adjusted[place] = quotient as u32;
+    }
+    Ok(adjusted)
 }
 
 /// 01 "Close" (2.6.5.2): -ADF·P·12 if ADF < 0 and 100·D < 98·A, else no charge.

@@ -73,6 +73,9 @@ pub const Q: Field = power("q", 1);
 pub const DREAL: Field = power("Dreal", 0);
 pub const P: Field = field("P", 2, "cents per kW-month", 1, 2_500);
 
+/// 02 "A4".
+pub const MEAN: Field = power("mean", 0);
+
 impl Field {
     /// 01 "Journal records": the bytes, low byte first, of a decimal number that the width holds, in range or not.
     pub fn bytes(&self, word: &str) -> Result<Vec<u8>, String> {
@@ -99,7 +102,7 @@ mod tests {
     use crate::{range, record, text};
 
     /// Calls in range, with the places of the fields that may be the least and the greatest of their ranges there.
-    const IN_RANGE: [(&str, &[usize]); 14] = [
+    const IN_RANGE: [(&str, &[usize]); 15] = [
         ("year 1 1 1", &[0, 1, 2]),
         ("unit 1 1 1 8 0 0 0 0 0", &[0, 1, 3, 4]),
         ("unit 1 1 3 0 0 0 0 0 0", &[2]),
@@ -114,6 +117,7 @@ mod tests {
         ("release 1 1 1", &[0, 1, 2]),
         ("meter 1 0", &[0, 1]),
         ("close 1", &[0]),
+        ("mean 1 0", &[0, 1]),
     ];
 
     /// 01 "Numbered replies", 3: whether a call is in range with one of its fields changed; a count has as many readings.
@@ -176,6 +180,7 @@ mod tests {
             (Q, "q: x is not a power in kW, 1 to 3000000"),
             (DREAL, "Dreal: x is not a power in kW, 0 to 3000000"),
             (P, "P: x is not cents per kW-month, 1 to 2500"),
+            (MEAN, "mean: x is not a power in kW, 0 to 3000000"),
         ];
         for (field, message) in messages {
             assert_eq!(field.bytes("x").unwrap_err(), message);

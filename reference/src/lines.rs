@@ -52,7 +52,7 @@ mod tests {
     fn lines_and_records_turn_into_each_other() {
         let text = "year 720 120 4\nunit 48 16 8 15 1 2 3 4 4294967295\ntest 1 2 0 4 2 7 750001\n\
                     availability 1 0 1 2 3 4\ndeclare 64 5 6\nfix 1\ncommit 1 2 3\nrelease 1 2 3\n\
-                    meter 1 0\nclose 65535\n";
+                    meter 1 0\nclose 65535\nmean 6 300\n";
         let journal = records(text).unwrap();
         assert_eq!(calls(&lines(&journal).text), text);
         assert_eq!(records(lines(&journal).text).unwrap(), journal);

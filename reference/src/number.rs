@@ -22,7 +22,7 @@ pub enum Number {
     Count = 8,
     /// 9: HD + HIF + HMP is 0 or above 1,052,640, or HED > HD + HMP.
     Minutes = 9,
-    /// 10: consumer not declared (commit, release, meter).
+    /// 10: consumer not declared (commit, release, meter, mean).
     Undeclared = 10,
     /// 11: producer's balances + q exceed its units' efficient offers.
     Offers = 11,
@@ -34,6 +34,8 @@ pub enum Number {
     Adjusted = 14,
     /// 15: output buffer shorter than the record, or than a division's amounts.
     Buffer = 15,
+    /// 02 "A4", 16, checked before 14: close while a declared consumer has neither a reading nor a mean.
+    NoRealDemand = 16,
 }
 
 /// 01 "Numbered replies": an accepted call returns 0, a refused one its number.
@@ -45,7 +47,7 @@ pub fn reply(result: Result<(), Number>) -> u8 {
 }
 
 /// 01 "Numbered replies": what each number means in short words, from 0, an accepted call.
-const MEANINGS: [&str; 16] = [
+const MEANINGS: [&str; 17] = [
     "accepted",
     "record cut short",
     "unknown mark",
@@ -62,6 +64,7 @@ const MEANINGS: [&str; 16] = [
     "weights sum to 0",
     "adjusted demand above 3,000,000 kW",
     "buffer too short",
+    "consumer without a reading or a mean",
 ];
 
 /// 01 "Numbered replies": a number and what it means in short words.
@@ -70,7 +73,7 @@ pub fn in_words(number: u8) -> String {
 }
 
 /// 01 "Numbered replies": the column When, from number 1.
-const CONDITIONS: [&str; 15] = [
+const CONDITIONS: [&str; 16] = [
     "record cut short",
     "unknown mark",
     "field outside its range; a division's T, weights or their number",
@@ -80,12 +83,13 @@ const CONDITIONS: [&str; 15] = [
     "component foreign to kind",
     "ending 0 with count not TC; ending 1 or 2 with count TC or more",
     "HD + HIF + HMP is 0 or above 1,052,640, or HED > HD + HMP",
-    "consumer not declared (commit, release, meter)",
+    "consumer not declared (commit, release, meter, mean)",
     "producer's balances + q exceed its units' efficient offers",
     "q above the pair's balance",
     "weights sum to 0",
     "a DFA above 3,000,000",
     "output buffer shorter than the record, or than a division's amounts",
+    "close while a declared consumer has neither a reading nor a mean",
 ];
 
 /// 01 "Numbered replies": a number and when it is met, as its row has it.

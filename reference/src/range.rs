@@ -34,6 +34,7 @@ pub fn holds(call: &Call) -> bool {
         }
         Call::Meter(meter) => numbered(meter.consumer, CONSUMERS) && meter.dreal <= MOST_KW,
         Call::Close(price) => (1..=2_500).contains(price),
+        Call::Mean(mean) => numbered(mean.consumer, CONSUMERS) && mean.mean <= MOST_KW,
     }
 }
 

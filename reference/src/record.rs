@@ -1,6 +1,6 @@
 //! The reader and the writer of one record.
 
-use crate::call::{Availability, Call, Contract, Declare, Meter, Test, Unit, Year};
+use crate::call::{Availability, Call, Contract, Declare, Mean, Meter, Test, Unit, Year};
 use crate::number::Number;
 use crate::plant::{Minutes, PowerTest};
 use crate::range;
@@ -54,6 +54,10 @@ pub fn read(journal: &[u8], place: usize) -> Result<(Call<'_>, usize), Number> {
             (Call::Meter(Meter { consumer: b[0], dreal: four(b, 1) }), 5)
         }
         [0x43, 0x4C] => (Call::Close(two(front::<2>(body)?, 0)), 2),
+        [0x41, 0x54] => {
+            let b = front::<5>(body)?;
+            (Call::Mean(Mean { consumer: b[0], mean: four(b, 1) }), 5)
+        }
         _ => return Err(Number::UnknownMark),
     };
     Ok((call, place + 2 + length))

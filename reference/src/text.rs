@@ -190,7 +190,7 @@ mod tests {
 
     #[test]
     fn a_name_that_is_no_call_is_named_with_the_calls() {
-        let calls = "the calls are year unit test availability declare fix commit release meter close";
+        let calls = "the calls are year unit test availability declare fix commit release meter close mean";
         for name in ["conmit", "Fix", "fix,", "1"] {
             assert_eq!(said(&format!("{name} 1")), format!("{name}: no such call; {calls}"));
         }
@@ -211,6 +211,7 @@ mod tests {
             ("release 1", "release has 3 fields, producer consumer q; 1 is given"),
             ("meter 1", "meter has 2 fields, consumer Dreal; 1 is given"),
             ("close", "close has 1 field, P; 0 are given"),
+            ("mean 6", "mean has 2 fields, consumer mean; 1 is given"),
         ];
         for (line, message) in cases {
             assert_eq!(said(line), message);
@@ -236,6 +237,7 @@ mod tests {
         assert_eq!(said("unit 256 1 1 17 0 0 0 0 0"), "unit: 256 is not a unit, 1 to 48");
         assert_eq!(said("declare 1 5000000000 1"), "D: 5000000000 is not a power in kW, 0 to 3000000");
         assert_eq!(said("test 1 0 0 4 2 1 x"), "reading: x is not a reading in kWh, 0 to 750000");
+        assert_eq!(said("mean 6 4294967296"), "mean: 4294967296 is not a power in kW, 0 to 3000000");
     }
 
     #[test]
@@ -244,6 +246,7 @@ mod tests {
         assert_eq!(records("close 0").unwrap(), [0x43, 0x4C, 0, 0]);
         assert_eq!(records("close 0000001").unwrap(), [0x43, 0x4C, 1, 0]);
         assert_eq!(records("meter 255 4294967295").unwrap(), [0x4D, 0x54, 0xFF, 0xFF, 0xFF, 0xFF, 0xFF]);
+        assert_eq!(records("mean 255 4294967295").unwrap(), [0x41, 0x54, 0xFF, 0xFF, 0xFF, 0xFF, 0xFF]);
         assert_eq!(records("test 0 9 9 9 1 4294967295").unwrap()[2..], [0, 9, 9, 9, 1, 0xFF, 0xFF, 0xFF, 0xFF]);
     }
 }

@@ -119,7 +119,7 @@ expect("the run of no bytes", ["run"], run_lines(0, 0, "0: end of journal"), "")
 expect("the run of J without its refused record", ["run"], run_lines(15, 0, "164: end of journal"), "", J[:123] + J[131:])
 expect("the page of J without its refused record", ["page"], J_PAGE, "", J[:123] + J[131:])
 
-# a trader's commonest mistakes: a wrong field, a consumer not declared, a journal cut, a text given as a journal
+# a trader's commonest mistakes: a wrong field, a consumer not declared, one without a reading, a journal cut, a text given as a journal
 expect(
     "a wrong field", ["replies", file("field.journal")],
     "0 year 720 120 4: 0 accepted\n7 unit 70 1 1 17 0 0 0 0 0: 3 field outside its range\n33 end of journal\n",
@@ -138,9 +138,26 @@ expect(
 )
 expect(
     "the run of a consumer not declared", ["run", file("undeclared.journal")],
-    run_lines(5, 1, "38: end of journal", "first refused record at byte 24: 10 consumer not declared (commit, release, meter)"),
+    run_lines(5, 1, "38: end of journal", "first refused record at byte 24: 10 consumer not declared (commit, release, meter, mean)"),
     "yearbook: 1 of 5 records refused, the first at byte 24: 10 consumer not declared\n",
 )
+J_SILENT = J[:123] + J[131:161] + J[168:]
+J_SILENT_SAID = "yearbook: 1 of 14 records refused, the first at byte 153: 16 consumer without a reading or a mean\n"
+expect(
+    "replies to J without its refused record and the last reading", ["replies"],
+    "".join(J_REPLIES.splitlines(True)[:9])
+    + "123 release 1 1 1000: 0 accepted\n131 commit 1 2 1500: 0 accepted\n139 meter 1 900: 0 accepted\n146 meter 2 1200: 0 accepted\n"
+    + "153 close 890: 16 consumer without a reading or a mean\n157 end of journal\n",
+    J_SILENT_SAID, J_SILENT,
+)
+expect(
+    "the run of J without its refused record and the last reading", ["run"],
+    run_lines(14, 1, "157: end of journal", "first refused record at byte 153: 16 close while a declared consumer has neither a reading nor a mean"),
+    J_SILENT_SAID, J_SILENT,
+)
+J_MEAN = J[:161] + b"AT" + J[163:]
+expect("J with a mean for the last reading", [], J_LISTING, J_SAID, J_MEAN)
+expect("replies to J with a mean for the last reading", ["replies"], J_REPLIES.replace("meter 3", "mean 3"), J_SAID, J_MEAN)
 STOP = "yearbook: reading stopped at byte 168: 1 record cut short\n"
 J_CUT_SAID = J_SAID.replace("16", "15")
 expect("a journal cut", [], J_CUT_LISTING, J_CUT_SAID + STOP, J[:-1])
@@ -171,6 +188,7 @@ expect(
 NO_PAGE = "yearbook: no page, the year is not closed: 4 not in this stage\n"
 expect("the page of J without its close", ["page"], "", J_CUT_SAID + NO_PAGE, J[:-4])
 expect("the page of a journal cut", ["page"], "", J_CUT_SAID + STOP + NO_PAGE, J[:-1])
+expect("the page of J without the last reading", ["page"], "", J_SILENT_SAID + NO_PAGE, J_SILENT)
 expect("the page of J and a part of a record", ["page"], J_PAGE, J_SAID + STOP.replace("168", "172"), J + b"C")
 expect("the page of no bytes", ["page"], "", NO_PAGE)
 expect("the page of a year without a refusal", ["page", file("silent.journal")], "", NO_PAGE)
@@ -239,6 +257,7 @@ SAID = "yearbook: {} records refused, the first at byte {}\n"
 TABLE = [
     ("declare 2 1000 4000000", K[:94] + (4000000).to_bytes(4, "little") + K[98:], SAID.format("3 of 15", "87: 3 field outside its range")),
     ("no declare 3", K[:98] + K[109:], SAID.format("1 of 14", "142: 10 consumer not declared")),
+    ("no meter 3", K[:153] + K[160:], SAID.format("1 of 14", "153: 16 consumer without a reading or a mean")),
     ("the fix behind the first commit", K[:109] + K[115:123] + K[109:115] + K[123:], SAID.format("2 of 15", "109: 4 not in this stage")),
     ("the first 100 bytes", K[:100], "yearbook: reading stopped at byte 98: 1 record cut short\n"),
     ("the first 98 bytes, whole records", K[:98], ""),

@@ -21,10 +21,11 @@ TABLE = {
     "release": (b"\x52\x4c", [PRODUCER, CONSUMER, (4, 1, POWER)]),
     "meter": (b"\x4d\x54", [CONSUMER, (4, 0, POWER)]),
     "close": (b"\x43\x4c", [(2, 1, 2500)]),
+    "mean": (b"\x41\x54", [CONSUMER, (4, 0, POWER)]),
 }
 
 # the marks that document 02 gives to records of requests, unknown until the request has landed
-LATER = ["4154", "646d", "636d", "726c", "6d74", "6174", "5947", "4c56", "5450"]
+LATER = ["646d", "636d", "726c", "6d74", "6174", "5947", "4c56", "5450"]
 
 # values in range of each call; the second unit is of kind 2, which alone uses PPR
 BASE = {
@@ -38,6 +39,7 @@ BASE = {
     "release": [[1, 2, 1]],
     "meter": [[9, 900]],
     "close": [[890]],
+    "mean": [[6, 300]],
 }
 
 
@@ -136,6 +138,8 @@ def replies():
     yield record("declare", [1, 1, 1])
     yield record("fix", [3_000_000])
     yield record("meter", [1, 2])
+    yield record("mean", [9, 900])
+    yield record("close", [890])
 
 
 def case_j():

@@ -6,7 +6,7 @@ A journal is given as FILE and on standard input in turn, from word to word; a s
 named with the first line that differs and copied to DIFFERENT. Prints how often each number was met in the random journals, how many of them
 have a page, have two, and have none, refused with 4, and how many have their first refusal where, together with how the reading ended. A journal
 whose first record is refused has its first refusal at place 0, even where it is the only record read; one that is too long has none of these pairs.
-Fails if a journal differs, a number from 1 to 14 was never met, or one of the three or of the twelve pairs never occurred."""
+Fails if a journal differs, a number from 1 to 14 or number 16 was never met, or one of the three or of the twelve pairs never occurred."""
 import collections
 import concurrent.futures
 import io
@@ -18,7 +18,7 @@ import shutil
 import subprocess
 import sys
 
-NUMBERS = range(1, 15)
+NUMBERS = *range(1, 15), 16
 BATCH = 50
 PAGES = "a page", "two pages", "a page refused with 4"
 FIRST_REFUSALS = "no refusal", "first refusal at place 0", "first refusal in the middle", "first refusal as the last record read"

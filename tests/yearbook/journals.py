@@ -3,13 +3,14 @@
 
 Case J (JOURNAL) cut behind each byte, with unknown marks and with odd counts; a text in place of a journal; fields that are all 0 and
 all 255; the largest inputs of 65,536 bytes, whole and cut, and longer ones; a listing with every line there can be, and the longest replies;
-printed closes about the end of a page, and those with the widest figures; the first refusal at each place, with each end behind it."""
+printed closes about the end of a page, and those with the widest figures; the first refusal at each place, with each end behind it; means in place of
+readings, and one silent consumer at each end and in the middle, with the others within their limit and above it."""
 import struct
 import sys
 
 LIMIT = 65536
 # the bytes behind each mark, with no reading
-FIELDS = {b"YR": 5, b"UN": 24, b"TS": 5, b"AV": 18, b"DM": 9, b"FX": 4, b"CM": 6, b"RL": 6, b"MT": 5, b"CL": 2}
+FIELDS = {b"YR": 5, b"UN": 24, b"TS": 5, b"AV": 18, b"DM": 9, b"FX": 4, b"CM": 6, b"RL": 6, b"MT": 5, b"CL": 2, b"AT": 5}
 
 
 def year():
@@ -49,6 +50,10 @@ def close(p):
     return b"CL" + struct.pack("<H", p)
 
 
+def mean(consumer, kw):
+    return b"AT" + struct.pack("<BI", consumer, kw)
+
+
 def widest():
     """every unit, producer and consumer, with figures as large as they get"""
     most = [750000] * 4
@@ -80,7 +85,7 @@ def closes():
     for name, one in ("credit-first", 1), ("credit-last", 64):
         declared, readings = dict.fromkeys(every, charged), dict.fromkeys(every, most)
         yield name, closed({**declared, one: (most, most)}, most, {**readings, one: 0}, 2500)
-    yield "one-charged", closed({**dict.fromkeys(range(1, 64), (1, 1)), 64: charged}, most, {64: 63}, 2500)
+    yield "one-charged", closed({**dict.fromkeys(range(1, 64), (1, 1)), 64: charged}, most, {**dict.fromkeys(range(1, 64), 0), 64: 63}, 2500)
     yield "all-charged", closed({**dict.fromkeys(every, charged), 1: (1, 2)}, 1, dict.fromkeys(every, most), 2500)
 
 
@@ -109,9 +114,33 @@ def same_bytes(byte):
     return b"".join(mark + byte * (size + (4 * byte[0] if mark == b"TS" else 0)) for mark, size in FIELDS.items())
 
 
-def refused_closes(meters):
-    """65,536 bytes that give the longest replies: closes that meet 14 behind so many readings, the last one cut or not"""
-    return filled(year() + declare(1, 1, 1) + fix(3000000) + meter(1, 2) * meters, close(2500), LIMIT)
+def refused_closes(behind):
+    """65,536 bytes of closes behind a fixed year and more records, the last one cut or not: they meet 14 where consumer 1 has a reading of 2, and 16,
+    with the longest replies, where it has none"""
+    return filled(year() + declare(1, 1, 1) + fix(3000000) + behind, close(2500), LIMIT)
+
+
+def silent_consumers():
+    """64 consumers, all but one with a mean: a close meets 16, wherever the silent one stands; behind its reading, a close is accepted where every DFA
+    is within 3,000,000, and meets 14 where all the others are above"""
+    fixed = year() + b"".join(declare(consumer, 100, 200) for consumer in range(1, 65)) + fix(12800)
+    for silent in (1, 2, 33, 63, 64):
+        for where, dreal in ("within", 1500000), ("above", 1500001):
+            means = b"".join(mean(consumer, dreal) for consumer in range(1, 65) if consumer != silent)
+            yield f"silent-{silent:02}-{where}", fixed + means + close(890) + meter(silent, 0) + close(890)
+
+
+def means_of_j(j):
+    """case J, whose readings are the three records before the close, with a mean for one reading or for all, with neither, and with a mean of 0 before
+    and behind the reading"""
+    start, readings, end = j[:-25], [j[-25:-18], j[-18:-11], j[-11:-4]], j[-4:]
+    yield "j-means", start + b"".join(b"AT" + reading[2:] for reading in readings) + end
+    for at in range(3):
+        before, own, behind = readings[:at], readings[at], readings[at + 1:]
+        for name, records in (
+            ("mean", [b"AT" + own[2:]]), ("neither", []), ("mean-before", [mean(at + 1, 0), own]), ("mean-behind", [own, mean(at + 1, 0)])
+        ):
+            yield f"j-{name}-{at + 1}", start + b"".join(before + records + behind) + end
 
 
 def journals(j):
@@ -132,10 +161,15 @@ def journals(j):
     yield "widest", widest()
     yield "largest", filled(widest()[:-4], meter(1, 1), LIMIT)
     yield "largest-whole", filled(year() + declare(1, 1, 1) + fix(1), meter(1, 1), LIMIT - (LIMIT - 24) % 7)
-    yield "longest-replies", refused_closes(1)
-    yield "longest-replies-whole", refused_closes(4)
+    yield "largest-means", filled(widest()[:-4], mean(64, 3000000), LIMIT)
+    yield "longest-replies", refused_closes(mean(2, 1))
+    yield "longest-replies-whole", refused_closes(b"")
+    yield "closes-above", refused_closes(meter(1, 2))
+    yield "closes-above-whole", refused_closes(meter(1, 2) * 4)
     yield from closes()
     yield from first_refusals()
+    yield from silent_consumers()
+    yield from means_of_j(j)
     yield "too-long", filled(widest()[:-4], meter(1, 1), LIMIT + 1)
     yield "too-long-closed", filled(widest(), close(1), LIMIT + 1)
     yield "far-too-long", filled(year(), year(), 3 * LIMIT)

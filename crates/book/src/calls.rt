@@ -2,7 +2,7 @@
 // gives plain numbers, and lends the readings.
 ghost use Rattle.std.specs.Prelude.{◌≡◌, []};
 ghost use Rattle.table.specs.declared.units.UnitCall.TheVariants.{Enrol, Test, Availability};
-ghost use Rattle.table.specs.declared.consumers.ConsumerCall.TheVariants.{Declare, Meter};
+ghost use Rattle.table.specs.declared.consumers.ConsumerCall.TheVariants.{Declare, Meter, Mean};
 ghost use Rattle.table.specs.declared.contracts.ContractCall.TheVariants.{Commit, Release};
 ghost use Rattle.state.specs.State.{replied};
 ghost use Rattle.gathering.specs.Units.{unit_of};
@@ -101,4 +101,11 @@ pub fn meter(book: Book, consumer: u32, dreal: u32) -> Result<Book, Refusal>
     ensures { replied book result ≡ consumer_of book consumer (Meter dreal) }
 {
     of_consumer(book, consumer, ConsumerCall::Meter { dreal })
+}
+
+// The mean of a consumer's daily maxima at the system's peak hours, kW.
+pub fn mean(book: Book, consumer: u32, mean: u32) -> Result<Book, Refusal>
+    ensures { replied book result ≡ consumer_of book consumer (Mean mean) }
+{
+    of_consumer(book, consumer, ConsumerCall::Mean { mean })
 }

@@ -7,11 +7,12 @@ use mathlib.Core.Logic.{◌⊎◌, inl, inr}
 use Prim.Native.Nat.{ℕ, zero, suc, ◌≤◌, ◌<◌, zero-le}
 use native.Mathlib.Omega.{arith}
 use lib.ListN.{length, get_or, length-map}
+use Rattle.basis.specs.Choice.{pick}
 use Rattle.basis.specs.Sums.{sum, all_at_most}
 use Rattle.basis.proofs.Sums.{at_most_all}
 use Rattle.basis.proofs.Tables.{length-tab, get_or-tab}
 use Rattle.share.specs.Division.{division_number}
-use Rattle.quantities.specs.Limits.{greatest_total, greatest_weight, consumers}
+use Rattle.quantities.specs.Limits.{greatest_total, greatest_weight, greatest_power, consumers}
 use Rattle.share.proofs.Accepted.{enough}
 use Rattle.table.specs.Records.{parts_of}
 use Rattle.table.specs.declared.calls.Call.TheVariants as call
@@ -20,18 +21,19 @@ use Rattle.state.specs.declared.kept.Stage.TheVariants.{Firm}
 use Rattle.state.specs.declared.kept.Consumer.{Consumer}
 use Rattle.state.specs.declared.kept.Book.{Book}
 use Rattle.fix.specs.Fix.{weights_of}
-use Rattle.close.specs.Close.{adjusted_of, adjusted_in, surplus_by, surpluses_in, charges_in, credits_of, undistributed_of, close_rest, close_number, close_number_by, figures_of, closed}
+use Rattle.close.specs.Close.{reals_of, adjusted_of, adjusted_in, surplus_by, surpluses_in, charges_in, credits_of, undistributed_of, close_rest, close_number, close_number_by, figures_of, closed}
 use Rattle.close.proofs.Bounds.{AcceptedClose}
 use Rattle.close.proofs.CloseLaws.{charges_small, accepted-close}
 use Rattle.book.specs.Lists.{Event}
 use Rattle.claims.specs.History.{is_a, last_that, begun_in, fixed_in, closed_in, dmp_in, price_in, declared_in}
 use Rattle.claims.specs.Figures.{demand_in, declaration_by, consumer_in, consumers_in, adjusted_demands_in, positive_adjustments_in, all_charges_in, all_credits_in, undistributed_in}
-use Rattle.claims.specs.Refusals.{number_in}
+use Rattle.claims.specs.Refusals.{all_heard_in, number_in}
 use Rattle.claims.proofs.SameFigures.{last_this, hours_as_before, fixed_as_before, dmp_as_before}
 use Rattle.claims.proofs.Stages.{firm_is, Passed, accepted_shows, behind}
 use Rattle.claims.proofs.Kept.{Kept}
 use Rattle.claims.proofs.Untouched.{same_consumers, plants_other, consumers-other, contracts_other, firm_other}
 use Rattle.claims.proofs.Demands.{demand_at_most}
+use Rattle.claims.proofs.RealDemands.{all_heard_lem}
 
 module _ {A : Type 0} where
   -- a list mapped, at a place; past the end of both
@@ -48,9 +50,9 @@ module _ (h : List Event) (b : Book) (k : Kept h b) (p : ℕ) (readings : List �
   abbrev close : Event
   close = record { call = call.Close p; readings = readings }
 
-  shown : Passed (call.Close p) [] Firm b.stage (close_rest b.dmp b.consumers)
+  shown : Passed (call.Close p) [] Firm b.stage (close_rest b.dmp (sum (weights_of b.consumers)) (reals_of b.consumers))
   unfolding close_number_by
-  shown = accepted_shows (call.Close p) [] Firm b.stage (close_rest b.dmp b.consumers) z
+  shown = accepted_shows (call.Close p) [] Firm b.stage (close_rest b.dmp (sum (weights_of b.consumers)) (reals_of b.consumers)) z
 
   was_firm : (closed_in h ≡ false) × (fixed_in h ≡ true)
   was_firm = firm_is (closed_in h) (fixed_in h) (begun_in h) (sym k.timing.stage_kept ∙ shown.stage)
@@ -164,6 +166,7 @@ module _ (h : List Event) (b : Book) (k : Kept h b) (p : ℕ) (readings : List �
               credited_kept = λ q. refl;
               undistributed_kept = λ q. undistributed_now;
               fixed_before = λ q. fixed_as_before close h refl ∙ was_firm.1;
+              heard = λ q. rw (← consumers_were) shown_close.heard;
               adjusted_small = λ q. rw (← adjusted_now) shown_close.within;
               charges_small = λ q. rw (← charges_now) all_small;
               charges_divided = λ q. rw (← charges_now, ← surpluses_now) (divides (sum (surpluses_in b.dmp b.consumers)) refl);
@@ -172,7 +175,9 @@ module _ (h : List Event) (b : Book) (k : Kept h b) (p : ℕ) (readings : List �
 
 -- the number of a close
 pub close_exact : (h : List Event) (b : Book) (k : Kept h b) (p : ℕ) (readings : List ℕ) → close_number b p ≡ number_in h (call.Close p) readings
-unfolding close_number_by number_in adjusted_demands_in
+unfolding close_number_by number_in adjusted_demands_in adjusted_in
 close_exact h b k p readings =
-    behind h b.stage k.timing.stage_kept (call.Close p) [] Firm (close_rest b.dmp b.consumers) (close_rest (dmp_in h) (consumers_in h))
-    (λ z s. ap (λ d. close_rest d b.consumers) k.timing.dmp_kept ∙ ap (close_rest (dmp_in h)) k.consumers.consumers_kept)
+    let left : ℕ → List Consumer → ℕ = λ d xs. close_rest d (sum (weights_of xs)) (reals_of xs) in
+    let within : ℕ = pick (all_at_most greatest_power (adjusted_demands_in h)) 0 14 in
+    behind h b.stage k.timing.stage_kept (call.Close p) [] Firm (left b.dmp b.consumers) (pick (all_heard_in h) within 16)
+    (λ z s. ap (λ d. left d b.consumers) k.timing.dmp_kept ∙ ap (left (dmp_in h)) k.consumers.consumers_kept ∙ ap (λ t. pick t within 16) (all_heard_lem h))

@@ -122,6 +122,7 @@ module _ (h : List Event) (b : Book) (k : Kept h b) (dmp : ℕ) (readings : List
       ∙ ap (λ df. declaration_by df (declared_in h (suc i))) (demand_now i)
       ∙ ap (declaration_by (demand_in (fix ∷ h) (suc i))) (sym (about_as_before fix h name.Declare (suc i) refl)))
       (ap reading_by (sym (about_as_before fix h name.Meter (suc i) refl)))
+      (ap reading_by (sym (about_as_before fix h name.Mean (suc i) refl)))
 
   pub fix_kept : Kept (fix ∷ h) (fixed b dmp)
   unfolding fixed with_demands consumers_in parts_of

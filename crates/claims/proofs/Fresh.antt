@@ -60,6 +60,7 @@ fresh_kept =
             credited_kept = λ e. absurd (false≢true e);
             undistributed_kept = λ e. absurd (false≢true e);
             fixed_before = λ e. absurd (false≢true e);
+            heard = λ e. absurd (false≢true e);
             adjusted_small = λ e. absurd (false≢true e);
             charges_small = λ e. absurd (false≢true e);
             charges_divided = λ e. absurd (false≢true e);

@@ -23,6 +23,7 @@ use Rattle.state.specs.declared.kept.Book.{Book}
 use Rattle.state.specs.State.{cells, cell_of, row_of, stage_number}
 use Rattle.gathering.specs.Units.{cap_of}
 use Rattle.fix.specs.Fix.{limits_of}
+use Rattle.close.specs.Close.{reals_of, all_heard}
 use Rattle.book.specs.Lists.{Event}
 use Rattle.claims.specs.History.{last_that, about, fixed_in, closed_in, stage_in, hours_in, dmp_in, field_in, declared_in, commitments_in, releases_in, entry_in, component_in}
 use Rattle.claims.specs.Figures.{units_in, offers_in, efficient_offers_in, declarations_in, consumers_in, adjusted_demands_in, positive_adjustments_in, all_charges_in, all_credits_in, undistributed_in}
@@ -67,8 +68,9 @@ pub record Money (h : List Event) (figures : CloseFigures) : Type 0 where
   pub charged_kept : closed_in h ≡ true → figures.charged ≡ sum figures.charges
   pub credited_kept : closed_in h ≡ true → figures.credited ≡ sum figures.credits
   pub undistributed_kept : closed_in h ≡ true → figures.undistributed ≡ undistributed_in h
-  -- the year was fixed before, and the close was within its bounds
+  -- the year was fixed before, every declared consumer was heard, and the close was within its bounds
   pub fixed_before : closed_in h ≡ true → fixed_in h ≡ true
+  pub heard : closed_in h ≡ true → all_heard (reals_of (consumers_in h)) ≡ true
   pub adjusted_small : closed_in h ≡ true → all_at_most greatest_power (adjusted_demands_in h) ≡ true
   pub charges_small : closed_in h ≡ true → sum (all_charges_in h) ≤ greatest_total
   -- the charges were divided, or there was no positive adjustment to divide them by

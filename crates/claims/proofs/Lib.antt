@@ -12,6 +12,7 @@ pub mod Components
 pub mod UnitCalls
 pub mod ConsumerCalls
 pub mod Demands
+pub mod RealDemands
 pub mod Fixing
 pub mod Cells
 pub mod Offers

@@ -16,7 +16,7 @@ pub data Part : Type 0 where
   the_timing : Part
   -- units with their components
   the_plants : Part
-  -- declarations with their firm demands, and readings
+  -- declarations with their firm demands, readings and means
   the_consumers : Part
   -- balances, and the limits of producers
   the_contracts : Part
@@ -59,6 +59,8 @@ parts_touched =
     ∷ (the_consumers ∷ [])
     -- close
     ∷ (the_timing ∷ the_money ∷ [])
+    -- mean
+    ∷ (the_consumers ∷ [])
     ∷ []
 
 abbrev pub among : Part → List Part → Bool

@@ -17,14 +17,14 @@ use Rattle.state.specs.declared.kept.Unit.{Unit}
 use Rattle.state.specs.declared.kept.Declaration.{Declaration}
 use Rattle.state.specs.declared.kept.Consumer.{Consumer}
 use Rattle.book.specs.Lists.{Event}
-use Rattle.claims.specs.History.{is_a, field, about, about_pair, last_that, field_in, happened, begun_in, fixed_in, closed_in, hours_in, dmp_in, declared_in, metered_in, sum_over, entry_by, entry_in, component_in}
+use Rattle.claims.specs.History.{is_a, field, about, about_pair, last_that, field_in, happened, begun_in, fixed_in, closed_in, hours_in, dmp_in, declared_in, metered_in, mean_in, sum_over, entry_by, entry_in, component_in}
 use Rattle.claims.specs.Figures.{unit_in, units_in, declarations_in, demand_in, declaration_by, reading_by, consumer_in, consumers_in}
 
 pub unit_is : {a b : Option Entry} {s t g k x y : Component} → a ≡ b → s ≡ t → g ≡ k → x ≡ y → ◌≡◌ {A = Unit} (record { enrolment = a; components = record { set = s; generator = g; storage = x } }) (record { enrolment = b; components = record { set = t; generator = k; storage = y } })
 unit_is p q r s = λ i. record { enrolment = p i; components = record { set = q i; generator = r i; storage = s i } }
 
-pub consumer_is : {a b : Declaration} {r s : Option ℕ} → a ≡ b → r ≡ s → ◌≡◌ {A = Consumer} (record { declaration = a; reading = r }) (record { declaration = b; reading = s })
-consumer_is p q = λ i. record { declaration = p i; reading = q i }
+pub consumer_is : {a b : Declaration} {r s m n : Option ℕ} → a ≡ b → r ≡ s → m ≡ n → ◌≡◌ {A = Consumer} (record { declaration = a; reading = r; mean = m }) (record { declaration = b; reading = s; mean = n })
+consumer_is p q r = λ i. record { declaration = p i; reading = q i; mean = r i }
 
 module _ (e : Event) (h : List Event) where
   pub last_as_before : (kind : Event → Bool) → kind e ≡ false → last_that kind (e ∷ h) ≡ last_that kind h
@@ -118,19 +118,19 @@ module _ (e : Event) (h : List Event) where
   unfolding demand_in
   demand_as_before a b c = rw (fixed_as_before b, dmp_as_before b, declarations_as_before a)
 
-  consumer_same : (c : ℕ) → demand_in (e ∷ h) c ≡ demand_in h c → declared_in (e ∷ h) c ≡ declared_in h c → metered_in (e ∷ h) c ≡ metered_in h c → consumer_in (e ∷ h) c ≡ consumer_in h c
-  consumer_same c df d m =
-      consumer_is (ap (λ n. declaration_by n (declared_in (e ∷ h) c)) df ∙ ap (declaration_by (demand_in h c)) d) (ap reading_by m)
+  consumer_same : (c : ℕ) → demand_in (e ∷ h) c ≡ demand_in h c → declared_in (e ∷ h) c ≡ declared_in h c → metered_in (e ∷ h) c ≡ metered_in h c → mean_in (e ∷ h) c ≡ mean_in h c → consumer_in (e ∷ h) c ≡ consumer_in h c
+  consumer_same c df d m v =
+      consumer_is (ap (λ n. declaration_by n (declared_in (e ∷ h) c)) df ∙ ap (declaration_by (demand_in h c)) d) (ap reading_by m) (ap reading_by v)
 
-  pub consumer_as_before : is_a name.Declare e ≡ false → is_a name.Fix e ≡ false → is_a name.Meter e ≡ false → (c : ℕ) → consumer_in (e ∷ h) c ≡ consumer_in h c
-  consumer_as_before a b m c =
-      consumer_same c (demand_as_before a b c) (about_as_before name.Declare c a) (about_as_before name.Meter c m)
+  pub consumer_as_before : is_a name.Declare e ≡ false → is_a name.Fix e ≡ false → is_a name.Meter e ≡ false → is_a name.Mean e ≡ false → (c : ℕ) → consumer_in (e ∷ h) c ≡ consumer_in h c
+  consumer_as_before a b m v c =
+      consumer_same c (demand_as_before a b c) (about_as_before name.Declare c a) (about_as_before name.Meter c m) (about_as_before name.Mean c v)
 
-  -- a declaration or a reading of another consumer
+  -- a declaration, a reading or a mean of another consumer
   pub consumer_another : (c : ℕ) → eqb (field 0 e) c ≡ false → demand_in (e ∷ h) c ≡ demand_in h c → consumer_in (e ∷ h) c ≡ consumer_in h c
-  consumer_another c q df = consumer_same c df (about_another name.Declare c q) (about_another name.Meter c q)
+  consumer_another c q df = consumer_same c df (about_another name.Declare c q) (about_another name.Meter c q) (about_another name.Mean c q)
 
-  pub consumers_as_before : is_a name.Declare e ≡ false → is_a name.Fix e ≡ false → is_a name.Meter e ≡ false → consumers_in (e ∷ h) ≡ consumers_in h
+  pub consumers_as_before : is_a name.Declare e ≡ false → is_a name.Fix e ≡ false → is_a name.Meter e ≡ false → is_a name.Mean e ≡ false → consumers_in (e ∷ h) ≡ consumers_in h
   unfolding consumers_in
-  consumers_as_before a b m =
-      tab_same (λ i. consumer_in (e ∷ h) (suc i)) (λ i. consumer_in h (suc i)) consumers (λ k p. consumer_as_before a b m (suc k))
+  consumers_as_before a b m v =
+      tab_same (λ i. consumer_in (e ∷ h) (suc i)) (λ i. consumer_in h (suc i)) consumers (λ k p. consumer_as_before a b m v (suc k))

@@ -33,6 +33,7 @@ use Rattle.claims.proofs.Demands.{total_positive, declaration_at, demand_at, dem
 use Rattle.claims.proofs.Fixing.{empty_row}
 use Rattle.claims.proofs.Places.{consumer_at_lem}
 use Rattle.claims.proofs.Offers.{within_power, limit_in}
+use Rattle.claims.proofs.RealDemands.{heard_at, adjusted_by_real}
 use Rattle.claims.proofs.Lists.{kept}
 
 numbered : {greatest n : ℕ} → 1 ≤ n → n ≤ greatest → Numbered greatest n
@@ -143,6 +144,11 @@ module _ (h : List Event) (b : Book) (k : Kept h b) where
         adjusted_defined = λ q. k.money.adjusted_kept q;
         charges_defined = λ q. k.money.charges_kept q;
         credits_defined = λ q. k.money.credits_kept q;
+        real_demand_given = λ q c lc uc. heard_at h (k.money.heard q) c (numbered lc uc);
+        adjusted_by_real_demand =
+            λ q c lc uc d.
+            ap (λ l. get_or l (c - 1) 0) (k.money.adjusted_kept q)
+            ∙ adjusted_by_real h c (numbered lc uc) d (heard_at h (k.money.heard q) c (numbered lc uc) d);
         sums_defined = λ q. (k.money.charged_kept q, k.money.credited_kept q, k.money.undistributed_kept q);
       }
 

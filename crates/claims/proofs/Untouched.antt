@@ -49,7 +49,7 @@ module _ (e : Event) (h : List Event) where
 
   pub same_consumers : Untouched the_consumers e → consumers_in (e ∷ h) ≡ consumers_in h
   same_consumers u =
-      let no = untouched_by the_consumers e u in consumers_as_before e h (no name.Declare refl) (no name.Fix refl) (no name.Meter refl)
+      let no = untouched_by the_consumers e u in consumers_as_before e h (no name.Declare refl) (no name.Fix refl) (no name.Meter refl) (no name.Mean refl)
 
   pub consumers-other : {xs : List Consumer} → Untouched the_consumers e → ConsumersKept h xs → ConsumersKept (e ∷ h) xs
   consumers-other u k =
@@ -126,6 +126,7 @@ module _ (e : Event) (h : List Event) where
         credited_kept = λ q. absurd (no q);
         undistributed_kept = λ q. absurd (no q);
         fixed_before = λ q. absurd (no q);
+        heard = λ q. absurd (no q);
         adjusted_small = λ q. absurd (no q);
         charges_small = λ q. absurd (no q);
         charges_divided = λ q. absurd (no q);

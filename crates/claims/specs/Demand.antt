@@ -1,5 +1,5 @@
 -- Demand 3: one claim about every list of calls, accepted and refused, from a fresh book ("The list of demand 3").
-use Rattle.std.specs.Prelude.{◌≡◌, true, List, [], map, ℕ, ◌+◌, ◌-◌, ◌*◌, ◌≤◌, ◌<◌, get_or, Some}
+use Rattle.std.specs.Prelude.{◌≡◌, true, List, [], map, ℕ, ◌+◌, ◌-◌, ◌*◌, ◌/◌, ◌≤◌, ◌<◌, get_or, Some}
 use Rattle.basis.specs.Sums.{sum}
 use Rattle.quantities.specs.Limits.{units, producers, consumers}
 use Rattle.quantities.specs.Flags.{flagged, injection_given}
@@ -7,7 +7,7 @@ use Rattle.table.specs.Records as name
 use Rattle.state.specs.declared.kept.Book.{Book}
 use Rattle.state.specs.State.{fresh_book, consumer_at, firm_demand_by, cell_of, row_of}
 use Rattle.book.specs.Lists.{Event, after_all, accepted_by}
-use Rattle.claims.specs.History.{field, field_in, last_that, about, fixed_in, closed_in, dmp_in, declared_in, commitments_in, releases_in}
+use Rattle.claims.specs.History.{field, field_in, last_that, about, happened, fixed_in, closed_in, dmp_in, declared_in, real_in, commitments_in, releases_in}
 use Rattle.claims.specs.Figures.{power_in, offers_in, efficient_offers_in, efficient_offer_in, producer_offer_in, total_declared_in, demand_in, adjusted_demands_in, positive_adjustments_in, all_charges_in, all_credits_in, undistributed_in}
 
 -- the firm demand that the book has for a consumer, and for all of them
@@ -51,6 +51,9 @@ pub record Demand3 (h : List Event) (b : Book) : Type 0 where
   pub adjusted_defined : closed_in h ≡ true → b.closing.adjusted ≡ adjusted_demands_in h
   pub charges_defined : closed_in h ≡ true → b.closing.charges ≡ all_charges_in h
   pub credits_defined : closed_in h ≡ true → b.closing.credits ≡ all_credits_in h
+  -- document 02, A4: "Where it stands, [the mean] is used as Dreal, whether or not a reading exists. .. A consumer with neither stops the close."
+  pub real_demand_given : closed_in h ≡ true → (c : ℕ) → 1 ≤ c → c ≤ consumers → happened (declared_in h c) ≡ true → happened (real_in h c) ≡ true
+  pub adjusted_by_real_demand : closed_in h ≡ true → (c : ℕ) → 1 ≤ c → c ≤ consumers → happened (declared_in h c) ≡ true → get_or b.closing.adjusted (c - 1) 0 ≡ field_in 1 (real_in h c) * dmp_in h / total_declared_in h
   -- "Charges and credits are summed over the consumers; these sums and the undistributed amount are those of the closed book"
   pub sums_defined : closed_in h ≡ true → (b.closing.charged ≡ sum b.closing.charges) × (b.closing.credited ≡ sum b.closing.credits) × (b.closing.undistributed ≡ undistributed_in h)
 

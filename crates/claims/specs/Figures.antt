@@ -13,7 +13,7 @@ use Rattle.state.specs.declared.kept.Consumer.{Consumer}
 use Rattle.book.specs.Lists.{Event}
 use Rattle.fix.specs.Fix.{offers_of, efficient_in, producer_by}
 use Rattle.close.specs.Close.{adjusted_in, surpluses_in, charges_in, credits_of, undistributed_of}
-use Rattle.claims.specs.History.{field, field_in, fixed_in, hours_in, dmp_in, price_in, declared_in, metered_in, entry_in, component_in}
+use Rattle.claims.specs.History.{field, field_in, fixed_in, hours_in, dmp_in, price_in, declared_in, metered_in, mean_in, entry_in, component_in}
 
 -- a unit and its components
 abbrev pub unit_in : List Event → ℕ → Unit
@@ -61,7 +61,7 @@ total_declared_in h = sum (declarations_in h)
 unfoldable pub demand_in : List Event → ℕ → ℕ
 demand_in h c = pick (fixed_in h) (get_or (shares (dmp_in h) (declarations_in h)) (c - 1) 0) 0
 
--- what a consumer declared, with its firm demand, and its reading
+-- what a consumer declared, with its firm demand, its reading and its mean
 abbrev pub declaration_by : ℕ → Option Event → Declaration
 declaration_by df None = Undeclared
 declaration_by df (Some e) = Declared (record { d = field 1 e; a = field 2 e; df = df })
@@ -72,7 +72,11 @@ reading_by (Some e) = Some (field 1 e)
 
 abbrev pub consumer_in : List Event → ℕ → Consumer
 consumer_in h c =
-    record { declaration = declaration_by (demand_in h c) (declared_in h c); reading = reading_by (metered_in h c) }
+    record {
+      declaration = declaration_by (demand_in h c) (declared_in h c);
+      reading = reading_by (metered_in h c);
+      mean = reading_by (mean_in h c);
+    }
 
 unfoldable pub consumers_in : List Event → List Consumer
 consumers_in h = tab (λ i. consumer_in h (suc i)) consumers

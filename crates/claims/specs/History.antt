@@ -3,6 +3,7 @@ use Rattle.state.specs.declared.kept.Entry.{Entry}
 use Rattle.power.specs.declared.quantity.Kw.{Kw}
 use Rattle.std.specs.Prelude.{Bool, false, List, [], ◌∷◌, ℕ, ◌+◌, eqb, get_or, Option, None, Some, is_some}
 use Rattle.std.specs.List.{find}
+use Rattle.std.specs.Option.{option_or}
 use Rattle.basis.specs.Choice.{pick}
 use Rattle.power.specs.Power.{fresh, energy_of, measured_of, after_test}
 use Rattle.plant.specs.Availability.{minutes}
@@ -74,9 +75,17 @@ price_in h = field_in 0 (last_that (is_a name.Close) h)
 abbrev pub declared_in : List Event → ℕ → Option Event
 declared_in h c = last_that (about name.Declare c) h
 
--- Dreal of the consumer's last accepted reading
+-- the consumer's last accepted reading
 abbrev pub metered_in : List Event → ℕ → Option Event
 metered_in h c = last_that (about name.Meter c) h
+
+-- the consumer's last accepted mean (document 02, A4)
+abbrev pub mean_in : List Event → ℕ → Option Event
+mean_in h c = last_that (about name.Mean c) h
+
+-- Dreal: "[w]here it stands, [the mean] is used as Dreal, whether or not a reading exists", else the reading
+abbrev pub real_in : List Event → ℕ → Option Event
+real_in h c = option_or (mean_in h c) (metered_in h c)
 
 -- "Commitments and releases are the sums of q over the pair's accepted calls."
 unfoldable pub sum_over : CallName → ℕ → ℕ → List Event → ℕ

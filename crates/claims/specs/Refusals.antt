@@ -1,5 +1,6 @@
 -- The number that a call meets, by the listed conditions over the accepted calls before it ("Numbered replies").
-use Rattle.std.specs.Prelude.{◌≡◌, List, [], ℕ, suc, ◌+◌, ◌-◌, eqb, ltb, Option, None, Some}
+use Rattle.std.specs.Prelude.{◌≡◌, Bool, true, List, [], ℕ, suc, ◌+◌, ◌-◌, eqb, ltb, Option, None, Some}
+use Rattle.std.specs.List.{list_all, range_with_len}
 use Rattle.basis.specs.Choice.{pick}
 use Rattle.basis.specs.Sums.{sum_up, all_at_most}
 use Rattle.quantities.specs.Limits.{greatest_power, consumers}
@@ -14,7 +15,7 @@ use Rattle.table.specs.Records as name
 use Rattle.state.specs.State.{fresh_book, ranged}
 use Rattle.gathering.specs.Units.{has_test, has_availability}
 use Rattle.book.specs.Lists.{Event, reply_to, after_all, accepted_by}
-use Rattle.claims.specs.History.{field, last_that, about, happened, stage_in, declared_in, commitments_in, releases_in}
+use Rattle.claims.specs.History.{field, last_that, about, happened, stage_in, declared_in, real_in, commitments_in, releases_in}
 use Rattle.claims.specs.Figures.{producer_offer_in, total_declared_in, adjusted_demands_in}
 
 -- 4: stage
@@ -40,12 +41,20 @@ balance_in h p c = commitments_in h p c - releases_in h p c
 abbrev pub balances_in : List Event → ℕ → ℕ
 balances_in h p = sum_up (λ i. balance_in h p (suc i)) consumers
 
+-- 16 is met where a consumer with an accepted declare is not heard: it "has neither a reading nor a mean"
+abbrev pub heard_in : List Event → ℕ → Bool
+heard_in h c = pick (happened (declared_in h c)) (happened (real_in h c)) true
+
+abbrev pub all_heard_in : List Event → Bool
+all_heard_in h = list_all (λ i. heard_in h (suc i)) (range_with_len 0 consumers)
+
 -- the numbers in their order, each under its condition; 0 where none is met
 unfoldable pub number_in : List Event → Call → List ℕ → ℕ
 number_in h (call.Year hours) readings = ranged (call.Year hours) [] (at_stage 0 h 0)
 number_in h (call.Fix dmp) readings = ranged (call.Fix dmp) [] (at_stage 1 h (pick (eqb (total_declared_in h) 0) 13 0))
 number_in h (call.Close p) readings =
-    ranged (call.Close p) [] (at_stage 2 h (pick (all_at_most greatest_power (adjusted_demands_in h)) 0 14))
+    ranged (call.Close p) []
+    (at_stage 2 h (pick (all_heard_in h) (pick (all_at_most greatest_power (adjusted_demands_in h)) 0 14) 16))
 number_in h (call.Unit unit (unit-call.Enrol e)) readings =
     ranged (call.Unit unit (unit-call.Enrol e)) [] (at_stage 1 h (already_enrolled h unit))
 number_in h (call.Unit unit (unit-call.Test component t)) readings =
@@ -62,6 +71,8 @@ number_in h (call.Consumer consumer (consumer-call.Declare d a)) readings =
     ranged (call.Consumer consumer (consumer-call.Declare d a)) [] (at_stage 1 h 0)
 number_in h (call.Consumer consumer (consumer-call.Meter dreal)) readings =
     ranged (call.Consumer consumer (consumer-call.Meter dreal)) [] (at_stage 2 h (declared_to h consumer 0))
+number_in h (call.Consumer consumer (consumer-call.Mean mean)) readings =
+    ranged (call.Consumer consumer (consumer-call.Mean mean)) [] (at_stage 2 h (declared_to h consumer 0))
 number_in h (call.Contract producer consumer (contract-call.Commit q)) readings =
     ranged (call.Contract producer consumer (contract-call.Commit q)) []
     (at_stage 2 h (declared_to h consumer (pick (ltb (producer_offer_in h producer) (balances_in h producer + q)) 11 0)))

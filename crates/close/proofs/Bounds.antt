@@ -17,7 +17,7 @@ use Rattle.state.specs.declared.kept.Declaration.{Declaration}
 use Rattle.state.specs.declared.kept.Declaration.TheVariants.{Undeclared, Declared}
 use Rattle.state.specs.declared.kept.Consumer.{Consumer}
 use Rattle.state.specs.State.{fresh_consumer}
-use Rattle.close.specs.Close.{adjusted_in, charge_by}
+use Rattle.close.specs.Close.{reals_of, adjusted_in, charge_by, all_heard}
 
 -- what one consumer is charged at most
 abbrev pub greatest_charge : ℕ
@@ -42,7 +42,8 @@ charges_at_most p adjusted xs e k =
     let f : ℕ → ℕ = λ i. charge_by p (get_or adjusted i 0) (get_or xs i fresh_consumer).declaration in
     omega (arith, sum-tab f consumers, sum_up_at_most greatest_charge f consumers (λ i _. charge_at_most p (get_or adjusted i 0) (get_or xs i fresh_consumer).declaration (e i) k))
 
--- a close that is accepted has its price in range and no DFA above the greatest
+-- a close that is accepted has its price in range, no declared consumer without a Dreal, and no DFA above the greatest
 pub record AcceptedClose (dmp : ℕ) (xs : List Consumer) (p : ℕ) : Type 0 where
   pub price : p ≤ greatest_price
+  pub heard : all_heard (reals_of xs) ≡ true
   pub within : all_at_most greatest_power (adjusted_in dmp xs) ≡ true

@@ -1,10 +1,10 @@
 -- The close: charges fit, figures by consumer, and what the division of the charges leaves.
-use Rattle.std.specs.Prelude.{Option, Result, Ok, Err, IfOk}
+use Rattle.std.specs.Prelude.{Option, None, Result, Ok, Err, IfOk}
 use Rattle.std.specs.Result.{result_unwrap_or}
 use mathlib.Core.Path.{◌≡◌, refl, sym, ap, ◌∙◌}
 use mathlib.Core.Bool.{true}
-use mathlib.Core.List.{List, [], ◌∷◌, map}
-use Prim.Native.Nat.{ℕ, ◌-◌, ◌*◌, ◌/◌, ◌≤◌}
+use mathlib.Core.List.{List, [], map}
+use Prim.Native.Nat.{ℕ, ◌-◌, ◌/◌, ◌≤◌}
 use native.Mathlib.Nat.{zero-mul, zero-div}
 use native.Mathlib.Omega.{arith}
 use lib.Dec.{eqb}
@@ -20,7 +20,6 @@ use Rattle.quantities.specs.Refusals.{met}
 use Rattle.quantities.proofs.RefusalLaws.{refusing}
 use Rattle.quantities.specs.Limits.{greatest_total, greatest_power, consumers}
 use Rattle.state.specs.declared.kept.Declaration.{Declaration}
-use Rattle.state.specs.declared.kept.Declaration.TheVariants.{Undeclared, Declared}
 use Rattle.state.specs.declared.kept.Consumer.{Consumer}
 use Rattle.state.specs.declared.kept.CloseFigures.{CloseFigures}
 use Rattle.table.specs.Ranges.{call_number}
@@ -28,54 +27,43 @@ use Rattle.table.specs.declared.calls.Call.TheVariants as call
 use Rattle.table.proofs.Table.{close-ranged}
 use Rattle.state.specs.declared.kept.Stage.{Stage}
 use Rattle.state.specs.declared.kept.Stage.TheVariants.{Firm}
-use Rattle.state.specs.State.{fresh_consumer, stage_number, ranged, staged}
+use Rattle.state.specs.State.{fresh_consumer, stage_number, staged}
 use Rattle.fix.specs.Fix.{weights_of}
-use Rattle.close.specs.Close.{declared_real, real_demand, reals_of, adjusted_by, adjusted_of, adjusted_in, surplus_by, charge_by, surpluses_in, charges_in, credits_of, undistributed_of, close_rest, close_number_by, close_number_from, figures_of}
+use Rattle.close.specs.Close.{real_demand, reals_of, adjusted_by, all_adjusted, adjusted_of, adjusted_in, surplus_by, charge_by, surpluses_in, charges_in, credits_of, undistributed_of, all_heard, close_rest, close_number_by, figures_of}
 use Rattle.basis.proofs.Choice.{peel_not, handed_on}
 use Rattle.close.proofs.Bounds.{charges_at_most, AcceptedClose}
 
--- DFA by Dreal, that of the undeclared being 0
-pub by_real : (dmp total : ℕ) (d : Declaration) (r : Option ℕ) → declared_real d r * dmp / total ≡ adjusted_by dmp total r d
-by_real dmp total Undeclared r = ap (λ n. n / total) (zero-mul dmp) ∙ zero-div total
-by_real dmp total (Declared f) r = refl
-
--- the DFA of all consumers, by their Dreal
-as_adjusted : (dmp total : ℕ) (xs : List Consumer) → map (λ x. real_demand x * dmp / total) xs ≡ map (adjusted_of dmp total) xs
-as_adjusted dmp total [] = refl
-as_adjusted dmp total (x ∷ xs) = λ i. by_real dmp total x.declaration x.reading i ∷ as_adjusted dmp total xs i
-
-pub by_reals : (dmp total : ℕ) (xs : List Consumer) → total ≡ sum (weights_of xs) → map (λ x. real_demand x * dmp / total) xs ≡ adjusted_in dmp xs
+-- the DFA of all consumers, from what was found of them
+pub all_adjusted_lem : (dmp : ℕ) (xs : List Consumer) {total : ℕ} {reals : List (Option ℕ)} → total ≡ sum (weights_of xs) → reals ≡ reals_of xs → all_adjusted dmp total reals ≡ adjusted_in dmp xs
 unfolding adjusted_in
-by_reals dmp total xs e = as_adjusted dmp total xs ∙ ap (λ t. map (adjusted_of dmp t) xs) e
+all_adjusted_lem dmp xs t r = rw (t, r)
 
 -- none is above the greatest
-pub each_within : (dmp total : ℕ) (xs : List Consumer) → total ≡ sum (weights_of xs) → all_at_most greatest_power (adjusted_in dmp xs) ≡ true → (k : ℕ) → real_demand (get_or xs k fresh_consumer) * dmp / total ≤ greatest_power
-unfolding adjusted_in
-each_within dmp total xs e h k =
-    let x = get_or xs k fresh_consumer in
-    let dfa : real_demand x * dmp / total ≡ get_or (adjusted_in dmp xs) k 0 =
-    by_real dmp total x.declaration x.reading
-    ∙ ap (λ t. adjusted_of dmp t x) e
-    ∙ sym (get_or-map (adjusted_of dmp (sum (weights_of xs))) xs k fresh_consumer) in
-    omega (arith, dfa, all_at_most_lem greatest_power (adjusted_in dmp xs) h k)
+pub each_within : (dmp total : ℕ) (reals : List (Option ℕ)) → all_at_most greatest_power (all_adjusted dmp total reals) ≡ true → (k : ℕ) → adjusted_by dmp total (get_or reals k None) ≤ greatest_power
+unfolding all_adjusted
+each_within dmp total reals h k =
+    omega (arith, get_or-map (adjusted_by dmp total) reals k None, all_at_most_lem greatest_power (all_adjusted dmp total reals) h k)
 
-from_reals : (dmp total : ℕ) (xs : List Consumer) → map (λ real. real * dmp / total) (map real_demand xs) ≡ map (λ x. real_demand x * dmp / total) xs
-from_reals dmp total [] = refl
-from_reals dmp total (x ∷ xs) = ap (λ l. real_demand x * dmp / total ∷ l) (from_reals dmp total xs)
+-- DFA of a fresh consumer, which stands for a place behind the last: 0
+none_adjusted : (dmp total : ℕ) → adjusted_of dmp total fresh_consumer ≡ 0
+none_adjusted dmp total = ap (λ n. n / total) (zero-mul dmp) ∙ zero-div total
 
-pub number_from : (stage : Stage) (dmp : ℕ) (xs : List Consumer) (p : ℕ) → close_number_from stage dmp (sum (weights_of xs)) (reals_of xs) p ≡ close_number_by stage dmp xs p
-unfolding close_number_from close_number_by reals_of adjusted_in
-number_from stage dmp xs p =
-    ap (λ l. ranged (call.Close p) [] (staged Firm stage (pick (all_at_most greatest_power l) 0 14))) (from_reals dmp (sum (weights_of xs)) xs ∙ as_adjusted dmp (sum (weights_of xs)) xs)
+-- DFA at a place, by the consumer there
+pub adjusted_at : (dmp : ℕ) (xs : List Consumer) (i : ℕ) → get_or (adjusted_in dmp xs) i 0 ≡ adjusted_of dmp (sum (weights_of xs)) (get_or xs i fresh_consumer)
+unfolding adjusted_in all_adjusted reals_of
+adjusted_at dmp xs i =
+    let total : ℕ = sum (weights_of xs) in
+    ap (get_or (map (adjusted_by dmp total) (map real_demand xs)) i) (sym (none_adjusted dmp total))
+    ∙ get_or-map (adjusted_by dmp total) (map real_demand xs) i (real_demand fresh_consumer)
+    ∙ ap (adjusted_by dmp total) (get_or-map real_demand xs i fresh_consumer)
 
 -- what is found from each consumer's DFA and declaration
 module _ (dmp : ℕ) (adjusted : List ℕ) (xs : List Consumer) (e : adjusted ≡ adjusted_in dmp xs) (n : length xs ≡ consumers) where
   by_consumer : (g : ℕ → Declaration → ℕ) → tab (λ i. g (get_or adjusted i 0) (get_or xs i fresh_consumer).declaration) consumers ≡ map (λ x. g (adjusted_of dmp (sum (weights_of xs)) x) x.declaration) xs
-  unfolding adjusted_in
   by_consumer g =
       let h = adjusted_of dmp (sum (weights_of xs)) in
       tab_same (λ i. g (get_or adjusted i 0) (get_or xs i fresh_consumer).declaration) (λ i. g (h (get_or xs i fresh_consumer)) (get_or xs i fresh_consumer).declaration) consumers
-      (λ i _. ap (λ dfa. g dfa (get_or xs i fresh_consumer).declaration) (ap (λ (l : List ℕ). get_or l i 0) e ∙ get_or-map h xs i fresh_consumer))
+      (λ i _. ap (λ dfa. g dfa (get_or xs i fresh_consumer).declaration) (ap (λ (l : List ℕ). get_or l i 0) e ∙ adjusted_at dmp xs i))
       ∙ tab-map (λ x. g (h x) x.declaration) xs fresh_consumer consumers n
 
   pub charges_by_consumer : (p : ℕ) → tab (λ i. charge_by p (get_or adjusted i 0) (get_or xs i fresh_consumer).declaration) consumers ≡ charges_in p dmp xs
@@ -112,13 +100,18 @@ pub figures_with : (p dmp : ℕ) (xs : List Consumer) (adjusted charges surpluse
 unfolding figures_of
 figures_with p dmp xs adjusted charges surpluses shared charged credited rest a c s t h r u = rw (u, r, h, t, s, c, a)
 
--- an accepted close was within its range, and so was every DFA
-pub accepted-close : (stage : Stage) (dmp : ℕ) (xs : List Consumer) (p : ℕ) → close_number_by stage dmp xs p ≡ 0 → AcceptedClose dmp xs p
-unfolding close_number_by
+-- an accepted close was within its range, every declared consumer was heard, and every DFA was within its range
+pub accepted-close : (stage : Stage) (dmp : ℕ) (xs : List Consumer) (p : ℕ) → close_number_by stage dmp (sum (weights_of xs)) (reals_of xs) p ≡ 0 → AcceptedClose dmp xs p
+unfolding close_number_by adjusted_in
 accepted-close stage dmp xs p e =
-    let a = handed_on (call_number (call.Close p) []) (staged Firm stage (close_rest dmp xs)) e in
-    let b = peel_not (eqb (stage_number stage) (stage_number Firm)) 3 (close_rest dmp xs) a.1 in
+    let reals = reals_of xs in
+    let total : ℕ = sum (weights_of xs) in
+    let within : ℕ = pick (all_at_most greatest_power (all_adjusted dmp total reals)) 0 14 in
+    let a = handed_on (call_number (call.Close p) []) (staged Firm stage (close_rest dmp total reals)) e in
+    let b = peel_not (eqb (stage_number stage) (stage_number Firm)) 3 (close_rest dmp total reals) a.1 in
+    let c = peel_not (all_heard reals) 15 within b.1 in
     record {
       price = (close-ranged p [] a.0).most;
-      within = (peel_not (all_at_most greatest_power (adjusted_in dmp xs)) 13 0 b.1).0;
+      heard = c.0;
+      within = (peel_not (all_at_most greatest_power (all_adjusted dmp total reals)) 13 0 c.1).0;
     }

@@ -1,5 +1,7 @@
 -- The close (2.6.5.2), declared consumers only.
-use Rattle.std.specs.Prelude.{List, [], map, ℕ, ◌-◌, ◌*◌, ◌/◌, ltb, eqb, replicate, Option, None, Some}
+use Rattle.std.specs.Prelude.{Bool, List, [], map, ℕ, ◌-◌, ◌*◌, ◌/◌, ltb, eqb, replicate, Option, None, Some, is_some}
+use Rattle.std.specs.List.{list_all}
+use Rattle.std.specs.Option.{option_or}
 use Rattle.basis.specs.Choice.{pick}
 use Rattle.basis.specs.Sums.{sum, all_at_most}
 use Rattle.share.specs.Division.{division_number, shares}
@@ -16,32 +18,31 @@ use Rattle.state.specs.State.{Reply}
 use Rattle.state.specs.State.{ranged, staged, reply_of}
 use Rattle.fix.specs.Fix.{weights_of}
 
--- Dreal; "no reading counts as 0"
-abbrev pub real_of : Option ℕ → ℕ
-real_of None = 0
-real_of (Some dreal) = dreal
+-- "declared consumers only": the undeclared are asked for no Dreal, and 0 stands in its place
+abbrev pub asked_of : Declaration → Option ℕ → Option ℕ
+asked_of Undeclared real = Some 0
+asked_of (Declared f) real = real
 
--- Dreal of each consumer, 0 of the undeclared, who have no DFA
-abbrev pub declared_real : Declaration → Option ℕ → ℕ
-declared_real Undeclared reading = 0
-declared_real (Declared f) reading = real_of reading
+-- Dreal (document 02, A4): the mean, "[w]here it stands, .. whether or not a reading exists", else the reading
+abbrev pub real_demand : Consumer → Option ℕ
+real_demand x = asked_of x.declaration (option_or x.mean x.reading)
 
-abbrev pub real_demand : Consumer → ℕ
-real_demand x = declared_real x.declaration x.reading
-
-unfoldable pub reals_of : List Consumer → List ℕ
+unfoldable pub reals_of : List Consumer → List (Option ℕ)
 reals_of xs = map real_demand xs
 
--- DFA = Dreal·DMP / ΣD
-abbrev pub adjusted_by : ℕ → ℕ → Option ℕ → Declaration → ℕ
-adjusted_by dmp total reading Undeclared = 0
-adjusted_by dmp total reading (Declared f) = real_of reading * dmp / total
+-- DFA = Dreal·DMP / ΣD; who is asked and has no Dreal has no DFA, and stops the close: 0 stands in its place
+abbrev pub adjusted_by : ℕ → ℕ → Option ℕ → ℕ
+adjusted_by dmp total None = 0
+adjusted_by dmp total (Some dreal) = dreal * dmp / total
+
+unfoldable pub all_adjusted : ℕ → ℕ → List (Option ℕ) → List ℕ
+all_adjusted dmp total reals = map (adjusted_by dmp total) reals
 
 abbrev pub adjusted_of : ℕ → ℕ → Consumer → ℕ
-adjusted_of dmp total x = adjusted_by dmp total x.reading x.declaration
+adjusted_of dmp total x = adjusted_by dmp total (real_demand x)
 
 unfoldable pub adjusted_in : ℕ → List Consumer → List ℕ
-adjusted_in dmp xs = map (adjusted_of dmp (sum (weights_of xs))) xs
+adjusted_in dmp xs = all_adjusted dmp (sum (weights_of xs)) (reals_of xs)
 
 -- ADF = DF - DFA where that is positive, else 0
 abbrev pub surplus_by : ℕ → Declaration → ℕ
@@ -67,22 +68,21 @@ credits_of total surpluses =
 unfoldable pub undistributed_of : ℕ → List ℕ → ℕ
 undistributed_of total surpluses = pick (eqb (division_number total surpluses consumers) 0) 0 total
 
--- behind 3 and 4: 14, a DFA above 3,000,000
-abbrev pub close_rest : ℕ → List Consumer → ℕ
-close_rest dmp xs = pick (all_at_most greatest_power (adjusted_in dmp xs)) 0 14
+-- no declared consumer "has neither a reading nor a mean"
+unfoldable pub all_heard : List (Option ℕ) → Bool
+all_heard reals = list_all is_some reals
 
--- close: 3, 4, 14
-unfoldable pub close_number_by : Stage → ℕ → List Consumer → ℕ → ℕ
-close_number_by stage dmp xs p = ranged (call.Close p) [] (staged Firm stage (close_rest dmp xs))
+-- behind 3 and 4: 16, "checked before 14: close while a declared consumer has neither a reading nor a mean"; 14, a DFA above 3,000,000
+abbrev pub close_rest : ℕ → ℕ → List (Option ℕ) → ℕ
+close_rest dmp total reals =
+    pick (all_heard reals) (pick (all_at_most greatest_power (all_adjusted dmp total reals)) 0 14) 16
 
--- the same, found from ΣD and the Dreal of all consumers: a step of the program
-unfoldable pub close_number_from : Stage → ℕ → ℕ → List ℕ → ℕ → ℕ
-close_number_from stage dmp total reals p =
-    ranged (call.Close p) []
-    (staged Firm stage (pick (all_at_most greatest_power (map (λ real. real * dmp / total) reals)) 0 14))
+-- close: 3, 4, 16, 14; from DMP, ΣD and the Dreal of all consumers
+unfoldable pub close_number_by : Stage → ℕ → ℕ → List (Option ℕ) → ℕ → ℕ
+close_number_by stage dmp total reals p = ranged (call.Close p) [] (staged Firm stage (close_rest dmp total reals))
 
 abbrev pub close_number : Book → ℕ → ℕ
-close_number b p = close_number_by b.stage b.dmp b.consumers p
+close_number b p = close_number_by b.stage b.dmp (sum (weights_of b.consumers)) (reals_of b.consumers) p
 
 -- the figures of a close at P
 unfoldable pub figures_of : ℕ → ℕ → List Consumer → CloseFigures

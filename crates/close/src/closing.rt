@@ -1,12 +1,12 @@
-// The close: range, stage, number 14, and the figures on copies of what the book keeps.
+// The close: range, stage, numbers 16 and 14, and the figures on copies of what the book keeps.
 ghost use Rattle.std.specs.Prelude.{◌≡◌, true, ◌≤◌};
 ghost use Rattle.basis.specs.Sums.{all_at_most};
 ghost use Rattle.quantities.specs.Limits.{greatest_power, greatest_price};
 ghost use Rattle.quantities.specs.Refusals.{met};
 ghost use Rattle.state.specs.State.{replied};
-ghost use Rattle.close.specs.Close.{adjusted_in, figures_of, close_number_from, close_number, close_of};
+ghost use Rattle.close.specs.Close.{adjusted_in, figures_of, close_number_by, close_number, close_of};
 
-use crate::adjusted::{adjusted, is_within, real_demands, total_declared};
+use crate::adjusted::{adjusted, is_heard, is_within, real_demands, total_declared};
 use crate::money::{charges, credits, surpluses};
 use quantities::{CONSUMERS, Refusal};
 use state::{Book, CloseFigures, Consumer, Stage, check_open};
@@ -18,7 +18,7 @@ fn figures(p: u32, dmp: u32, consumers: &[Consumer; CONSUMERS]) -> CloseFigures
     requires { (p ≤ greatest_price) × (all_at_most greatest_power (adjusted_in dmp consumers.now) ≡ true) }
     ensures { result ≡ figures_of p dmp consumers.now }
 {
-    let adjusted = adjusted(dmp, total_declared(consumers), consumers);
+    let adjusted = adjusted(dmp, total_declared(consumers), &real_demands(consumers));
     let charges = charges(p, &adjusted, consumers);
     let surpluses = surpluses(&adjusted, consumers);
     let charged = charges.iter().sum();
@@ -34,13 +34,22 @@ fn figures(p: u32, dmp: u32, consumers: &[Consumer; CONSUMERS]) -> CloseFigures
     }
 }
 
-// What a close meets, from ΣD and the real demand of each consumer: 3, 4, 14, or nothing. Nothing is changed. DMP and ΣD come as two
+// What a close meets, from ΣD and the real demand of each consumer: 3, 4, 16, 14, or nothing. Nothing is changed. DMP and ΣD come as two
 // figures: DMP stands in the book, and a run keeps ΣD beside it.
-#[tactic(auto, unfolding(crate::specs::Close::close_number_from))]
-pub fn check_close(stage: Stage, dmp: u32, total: u64, reals: &[u32], p: u32) -> Result<(), Refusal>
-    ensures { met result ≡ close_number_from stage dmp total reals.now p }
+#[tactic(auto, unfolding(crate::specs::Close::close_number_by))]
+pub fn check_close(
+    stage: Stage,
+    dmp: u32,
+    total: u64,
+    reals: &[Option<u32>],
+    p: u32,
+) -> Result<(), Refusal>
+    ensures { met result ≡ close_number_by stage dmp total reals.now p }
 {
     check_open(Call::Close { p }, stage, Stage::Firm)?;
+    if !is_heard(reals) {
+        return Err(Refusal::NoRealDemand);
+    }
     if is_within(dmp, total, reals) {
         Ok(())
     } else {

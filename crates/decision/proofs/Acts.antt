@@ -4,7 +4,7 @@ use native.Mathlib.Omega.{arith}
 use lib.Dec.{eqb}
 use Rattle.basis.specs.Choice.{pick}
 use Rattle.table.specs.declared.consumers.ConsumerCall.{ConsumerCall}
-use Rattle.table.specs.declared.consumers.ConsumerCall.TheVariants.{Declare, Meter}
+use Rattle.table.specs.declared.consumers.ConsumerCall.TheVariants.{Declare, Meter, Mean}
 use Rattle.state.specs.declared.kept.Stage.{Stage}
 use Rattle.state.specs.declared.kept.Consumer.{Consumer}
 use Rattle.state.specs.State.{stage_number}
@@ -15,3 +15,4 @@ pub declaration_kept : (act : ConsumerCall) (stage : Stage) (x : Consumer) → s
 unfolding consumer_rest consumer_after
 declaration_kept (Declare d a) stage x s z = absurd (omega (arith, ap (λ n. pick (eqb n 1) 0 4) (sym s) ∙ z))
 declaration_kept (Meter dreal) stage x s z = refl
+declaration_kept (Mean mean) stage x s z = refl

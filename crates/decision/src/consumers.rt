@@ -1,6 +1,8 @@
 // What a call of a consumer comes to.
 ghost use Rattle.std.specs.Prelude.{◌≡◌};
 ghost use Rattle.quantities.specs.Refusals.{met, decided};
+ghost use Rattle.state.specs.declared.kept.Stage.TheVariants.{Firm};
+ghost use Rattle.state.specs.State.{staged};
 ghost use Rattle.decision.specs.Consumers.{known, consumer_answer_of};
 
 use quantities::Refusal;
@@ -15,6 +17,14 @@ pub(crate) fn check_declared(declaration: Declaration) -> Result<(), Refusal>
         Declaration::Undeclared => Err(Refusal::NotDeclared),
         Declaration::Declared(_) => Ok(()),
     }
+}
+
+// Real demand is told in stage firm, of who declared: 4, 10.
+fn check_metered(stage: Stage, declaration: Declaration) -> Result<(), Refusal>
+    ensures { met result ≡ staged Firm stage (known declaration 0) }
+{
+    check_stage(stage, Stage::Firm)?;
+    check_declared(declaration)
 }
 
 // A call of a consumer, decided from the stage and the consumer: a refusal, or the consumer that is to be stored. Its parameters come apart,
@@ -36,10 +46,16 @@ pub fn consumer_answer(
             Ok(Consumer { declaration, ..x })
         }
         ConsumerCall::Meter { dreal } => {
-            check_stage(stage, Stage::Firm)?;
-            check_declared(x.declaration)?;
+            check_metered(stage, x.declaration)?;
             Ok(Consumer {
                 reading: Some(dreal),
+                ..x
+            })
+        }
+        ConsumerCall::Mean { mean } => {
+            check_metered(stage, x.declaration)?;
+            Ok(Consumer {
+                mean: Some(mean),
                 ..x
             })
         }

@@ -72,7 +72,7 @@ demand_by df Undeclared = Undeclared
 demand_by df (Declared f) = Declared (record { d = f.d; a = f.a; df = df })
 
 abbrev pub with_demand : ℕ → Consumer → Consumer
-with_demand df x = record { declaration = demand_by df x.declaration; reading = x.reading }
+with_demand df x = record { declaration = demand_by df x.declaration; reading = x.reading; mean = x.mean }
 
 unfoldable pub with_demands : List ℕ → List Consumer → List Consumer
 with_demands demands xs = tab (λ i. with_demand (get_or demands i 0) (get_or xs i fresh_consumer)) consumers

@@ -2,6 +2,7 @@
 use mathlib.Core.Path.{◌≡◌, refl, sym, ap, ◌∙◌}
 use mathlib.Core.Bool.{Bool, true, false}
 use mathlib.Core.List.{List, [], ◌∷◌, map}
+use Rattle.std.specs.Prelude.{Option}
 use Prim.Native.Nat.{ℕ, zero, suc}
 use native.Mathlib.Omega.{arith}
 use borrow.Author.Tests.{eqb-true}
@@ -24,8 +25,7 @@ use Rattle.state.specs.declared.kept.Book.{Book}
 use Rattle.state.specs.Places.{place_of}
 use Rattle.state.specs.State.{Reply, reply_with, reply_of, fresh_consumer, stage_number, with_consumers}
 use Rattle.fix.specs.Fix.{declared_by, weights_of}
-use Rattle.close.specs.Close.{real_demand, reals_of, close_number_from, close_number_by, close_number, closed, close_of}
-use Rattle.close.proofs.CloseLaws.{number_from}
+use Rattle.close.specs.Close.{real_demand, reals_of, close_number_by, close_number, closed, close_of}
 use Rattle.book.specs.Year.{year_number, begun, year_of}
 use Rattle.decision.specs.Consumers.{consumer_rest, consumer_after, consumer_number, consumer_answer_of, consumer_of}
 use Rattle.decision.proofs.Acts.{declaration_kept}
@@ -33,7 +33,7 @@ use Rattle.decision.proofs.Settled.{settled_consumer, consumer_settled}
 use Rattle.journal.specs.Ledger.{Ready}
 
 -- in another stage nothing is asked
-pub not_firm : {b : Book} {total : ℕ} {reals : List ℕ} → length reals ≡ consumers → (stage_number b.stage ≡ 2 → ⊥) → Ready b total reals
+pub not_firm : {b : Book} {total : ℕ} {reals : List (Option ℕ)} → length reals ≡ consumers → (stage_number b.stage ≡ 2 → ⊥) → Ready b total reals
 not_firm n h = record { count = n; total_right = λ e. absurd (h e); reals_right = λ e. absurd (h e) }
 
 module _ (n : ℕ) (b new : Book) {after : Book} where
@@ -50,7 +50,7 @@ module _ (n : ℕ) (b new : Book) {after : Book} where
       ap (λ (r : Reply). r.book) e ∙ ap (λ m. pick (eqb m 0) new b) (sym z) ∙ ap (λ t. pick t new b) (refusing refusal)
 
   -- a call that leaves stage and consumers leaves the figures right
-  pub ready_aside : {number total : ℕ} {reals : List ℕ} → new.stage ≡ b.stage → new.consumers ≡ b.consumers → reply_with number after ≡ reply_of n b new → Ready b total reals → Ready after total reals
+  pub ready_aside : {number total : ℕ} {reals : List (Option ℕ)} → new.stage ≡ b.stage → new.consumers ≡ b.consumers → reply_with number after ≡ reply_of n b new → Ready b total reals → Ready after total reals
   ready_aside {number} {total} {reals} s k e r = rw (ap (λ (q : Reply). q.book) e) (go (eqb n 0))
     where
       go : (t : Bool) → Ready (pick t new b) total reals
@@ -89,7 +89,7 @@ module _ (b : Book) (consumer : ℕ) (act : ConsumerCall) (place : ℕ) {after :
       go false q h = absurd (omega (arith, borrow.Author.Tests.eqb-false _ 0 q (sym (ap (λ (r : Reply). r.number) h))))
 
   -- its real demand, put in the place of the earlier one, keeps the figures right
-  pub ready_stored : (total : ℕ) (reals : List ℕ) → Ready b total reals → Ready after total (set reals place (real_demand (get_or after.consumers place fresh_consumer)))
+  pub ready_stored : (total : ℕ) (reals : List (Option ℕ)) → Ready b total reals → Ready after total (set reals place (real_demand (get_or after.consumers place fresh_consumer)))
   unfolding consumer_number weights_of reals_of
   ready_stored total reals r =
       let k = stored in
@@ -106,27 +106,26 @@ module _ (b : Book) (consumer : ℕ) (act : ConsumerCall) (place : ℕ) {after :
       })
 
 -- the year and the close lead to other stages
-pub ready_begun : (b : Book) (hours : Hours) {after : Book} {total : ℕ} {reals : List ℕ} → reply_with 0 after ≡ year_of b hours → length reals ≡ consumers → Ready after total reals
+pub ready_begun : (b : Book) (hours : Hours) {after : Book} {total : ℕ} {reals : List (Option ℕ)} → reply_with 0 after ≡ year_of b hours → length reals ≡ consumers → Ready after total reals
 unfolding year_of begun
 ready_begun b hours {after} e n = not_firm n (λ s. omega (arith, ap (λ (x : Book). stage_number x.stage) (accepted_book (year_number b hours) b (begun b hours) e), s))
 
-pub ready_closed : (b : Book) (p : ℕ) {after : Book} {total : ℕ} {reals : List ℕ} → reply_with 0 after ≡ close_of b p → length reals ≡ consumers → Ready after total reals
+pub ready_closed : (b : Book) (p : ℕ) {after : Book} {total : ℕ} {reals : List (Option ℕ)} → reply_with 0 after ≡ close_of b p → length reals ≡ consumers → Ready after total reals
 unfolding close_of closed
 ready_closed b p {after} e n = not_firm n (λ s. omega (arith, ap (λ (x : Book). stage_number x.stage) (accepted_book (close_number b p) b (closed b p) e), s))
 
 -- in another stage a close's number does not depend on them
-other_stage : (stage : Stage) (dmp total : ℕ) (reals : List ℕ) (xs : List Consumer) (p : ℕ) → eqb (stage_number stage) 2 ≡ false → close_number_from stage dmp total reals p ≡ close_number_by stage dmp xs p
-unfolding close_number_from close_number_by
-other_stage stage dmp total reals xs p q = rw q
+other_stage : (stage : Stage) (dmp total₁ total₂ : ℕ) (reals₁ reals₂ : List (Option ℕ)) (p : ℕ) → eqb (stage_number stage) 2 ≡ false → close_number_by stage dmp total₁ reals₁ p ≡ close_number_by stage dmp total₂ reals₂ p
+unfolding close_number_by
+other_stage stage dmp total₁ total₂ reals₁ reals₂ p q = rw q
 
 -- the number of a close that is found from them
-pub close_found : (b : Book) (total : ℕ) (reals : List ℕ) (p : ℕ) → Ready b total reals → close_number_from b.stage b.dmp total reals p ≡ close_number b p
+pub close_found : (b : Book) (total : ℕ) (reals : List (Option ℕ)) (p : ℕ) → Ready b total reals → close_number_by b.stage b.dmp total reals p ≡ close_number b p
 close_found b total reals p r = same (eqb (stage_number b.stage) 2) refl
   where
-    same : (t : Bool) → eqb (stage_number b.stage) 2 ≡ t → close_number_from b.stage b.dmp total reals p ≡ close_number b p
+    same : (t : Bool) → eqb (stage_number b.stage) 2 ≡ t → close_number_by b.stage b.dmp total reals p ≡ close_number b p
     same true q =
         let s = eqb-true (stage_number b.stage) 2 q in
-        ap (λ t. close_number_from b.stage b.dmp t reals p) (r.total_right s)
-        ∙ ap (λ l. close_number_from b.stage b.dmp (sum (weights_of b.consumers)) l p) (r.reals_right s)
-        ∙ number_from b.stage b.dmp b.consumers p
-    same false q = other_stage b.stage b.dmp total reals b.consumers p q
+        ap (λ t. close_number_by b.stage b.dmp t reals p) (r.total_right s)
+        ∙ ap (λ l. close_number_by b.stage b.dmp (sum (weights_of b.consumers)) l p) (r.reals_right s)
+    same false q = other_stage b.stage b.dmp total (sum (weights_of b.consumers)) reals (reals_of b.consumers) p q

@@ -1,6 +1,6 @@
 // The book of a run. Beside it stand, from the fix on, the figures from which a close's number is found: what all consumers declared, and
-// the real demand of each. Calls of a unit, a consumer or a contract are stored in place; year, fix and close are calls on the whole book,
-// which is copied only once such a call is found to be accepted. A ledger itself is neither copied nor compared.
+// the real demand of each, where there is one. Calls of a unit, a consumer or a contract are stored in place; year, fix and close are calls on
+// the whole book, which is copied only once such a call is found to be accepted. A ledger itself is neither copied nor compared.
 ghost use Rattle.std.specs.Prelude.{◌≡◌};
 ghost use Rattle.quantities.specs.Refusals.{met};
 ghost use Rattle.state.specs.State.{fresh_book, reply_with};
@@ -23,9 +23,9 @@ use table::{Call, ConsumerCall};
 #[derive(Drop)]
 pub(crate) struct Ledger {
     pub(crate) book: Book,
-    // Zeros before the fix: the stage tells it, so no Option is needed.
+    // Before the fix 0 and none: the stage tells it, so the whole is no Option.
     pub(crate) total: u64,
-    pub(crate) reals: [u32; CONSUMERS],
+    pub(crate) reals: [Option<u32>; CONSUMERS],
     ghost ready: { Ready book total reals },
 }
 
@@ -37,7 +37,7 @@ impl Ledger {
         Ledger {
             book: fresh(),
             total: 0,
-            reals: [0; CONSUMERS],
+            reals: [None; CONSUMERS],
         }
     }
 

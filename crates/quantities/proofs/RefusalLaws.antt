@@ -1,10 +1,9 @@
 -- A refusal has a number, and what an answer meets tells what it decides.
-use Rattle.std.specs.Prelude.{◌≡◌, ℕ, Bool, true, false, Result, Ok, Err, eqb, refl}
-use Rattle.std.proofs.Common.{◌∙◌, sym, ap}
+use Rattle.std.specs.Prelude.{◌≡◌, ℕ, false, Err, eqb, refl}
 use Rattle.basis.specs.Choice.{pick}
 use Rattle.quantities.specs.declared.refusals.Refusal.{Refusal}
-use Rattle.quantities.specs.declared.refusals.Refusal.TheVariants.{OutOfRange, WrongStage, AlreadyEnrolled, NotEnrolled, ForeignComponent, CountAgainstTime, ImpossibleMinutes, NotDeclared, AboveOffers, AboveBalance, NoWeight, AboveGreatestPower, ShortBuffer}
-use Rattle.quantities.specs.Refusals.{refusal_number, met, Decided, Refused, Stored, decided_by, decided}
+use Rattle.quantities.specs.declared.refusals.Refusal.TheVariants.{OutOfRange, WrongStage, AlreadyEnrolled, NotEnrolled, ForeignComponent, CountAgainstTime, ImpossibleMinutes, NotDeclared, AboveOffers, AboveBalance, NoWeight, AboveGreatestPower, ShortBuffer, NoRealDemand}
+use Rattle.quantities.specs.Refusals.{refusal_number, decided_by, decided}
 
 -- 0 is no refusal's number
 pub refusing : (refusal : Refusal) → eqb (refusal_number refusal) 0 ≡ false
@@ -21,6 +20,7 @@ refusing AboveBalance = refl
 refusing NoWeight = refl
 refusing AboveGreatestPower = refl
 refusing ShortBuffer = refl
+refusing NoRealDemand = refl
 
 -- a number that a refusal has decides by that refusal
 pub refused_by : {A : Type 0} (refusal : Refusal) (n : ℕ) (stored : A) → refusal_number refusal ≡ n → decided (Err refusal) ≡ decided_by n stored

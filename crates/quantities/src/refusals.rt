@@ -26,6 +26,8 @@ pub enum Refusal {
     // An adjusted demand DFA above the greatest power.
     AboveGreatestPower,
     ShortBuffer,
+    // A declared consumer with neither a reading nor a mean.
+    NoRealDemand,
 }
 
 impl From<Refusal> for u32 {
@@ -46,6 +48,7 @@ impl From<Refusal> for u32 {
             Refusal::NoWeight => 13,
             Refusal::AboveGreatestPower => 14,
             Refusal::ShortBuffer => 15,
+            Refusal::NoRealDemand => 16,
         }
     }
 }

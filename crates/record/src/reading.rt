@@ -60,6 +60,7 @@ fn read_each(journal: &[u8], at: usize, mark: Mark) -> Read
         Mark::Release => read_marked(journal, at, Mark::Release),
         Mark::Meter => read_marked(journal, at, Mark::Meter),
         Mark::Close => read_marked(journal, at, Mark::Close),
+        Mark::Mean => read_marked(journal, at, Mark::Mean),
     }
 }
 

@@ -1,5 +1,5 @@
 -- What an accepted division shows.
-use mathlib.Core.Path.{◌≡◌, refl, ap, ◌∙◌}
+use mathlib.Core.Path.{◌≡◌, ap, ◌∙◌}
 use mathlib.Core.Bool.{true, false, false≢true}
 use mathlib.Core.List.{List}
 use Prim.Native.Nat.{ℕ, ◌+◌, ◌-◌, ◌*◌, ◌^◌, ◌≤◌, ◌<◌}
@@ -15,7 +15,7 @@ use Rattle.basis.proofs.Choice.{peel, peel_not}
 use Rattle.quantities.specs.Limits.{greatest_total, greatest_weight, most_weights}
 use Rattle.quantities.specs.Refusals.{met}
 use Rattle.quantities.specs.declared.refusals.Refusal.{Refusal}
-use Rattle.quantities.specs.declared.refusals.Refusal.TheVariants.{OutOfRange, WrongStage, AlreadyEnrolled, NotEnrolled, ForeignComponent, CountAgainstTime, ImpossibleMinutes, NotDeclared, AboveOffers, AboveBalance, NoWeight, AboveGreatestPower, ShortBuffer}
+use Rattle.quantities.proofs.RefusalLaws.{refusing}
 use Rattle.share.specs.Division.{whole_parts, remainders, give, shares, division_number}
 use Rattle.share.proofs.Quotients.{length-parts, length-remainders, parts_at_most}
 
@@ -84,21 +84,6 @@ enough T ws room other h k =
     )
 
 -- a refusal has a number, and the lists are kept
-refusing : (refusal : Refusal) → eqb (met {A = Unit {0}} (Err refusal)) 0 ≡ false
-refusing OutOfRange = refl
-refusing WrongStage = refl
-refusing AlreadyEnrolled = refl
-refusing NotEnrolled = refl
-refusing ForeignComponent = refl
-refusing CountAgainstTime = refl
-refusing ImpossibleMinutes = refl
-refusing NotDeclared = refl
-refusing AboveOffers = refl
-refusing AboveBalance = refl
-refusing NoWeight = refl
-refusing AboveGreatestPower = refl
-refusing ShortBuffer = refl
-
 pub refused : (answer : Result (Unit {0}) Refusal) → IsErr answer → eqb (met answer) 0 ≡ false
 refused (Ok x) h = absurd (false≢true h)
 refused (Err refusal) h = refusing refusal

@@ -21,9 +21,9 @@ use Rattle.quantities.specs.Refusals.{refusal_number}
 abbrev pub fresh_unit : Unit
 fresh_unit = record { enrolment = None; components = fresh_components }
 
--- a consumer without declaration and reading
+-- a consumer without declaration, reading and mean
 abbrev pub fresh_consumer : Consumer
-fresh_consumer = record { declaration = Undeclared; reading = None }
+fresh_consumer = record { declaration = Undeclared; reading = None; mean = None }
 
 -- what a cell of the balances holds at most: 32 bits
 abbrev pub greatest_cell : ℕ
@@ -45,7 +45,7 @@ no_figures =
       undistributed = 0;
     }
 
--- "A fresh book is blank, with no unit, test, availability, declaration, contract or reading."
+-- "A fresh book is blank, with no unit, test, availability, declaration, contract or reading", and no mean
 unfoldable pub fresh_book : Book
 fresh_book =
     record {

@@ -30,7 +30,7 @@ fn no_figures() -> CloseFigures
     }
 }
 
-// A book that is blank, with no unit, test, availability, declaration, contract or reading.
+// A book that is blank, with no unit, test, availability, declaration, contract, reading or mean.
 #[tactic(auto, unfolding(crate::specs::State::fresh_book))]
 pub fn fresh() -> Book
     ensures { result ≡ fresh_book }
@@ -38,6 +38,7 @@ pub fn fresh() -> Book
     let consumer = Consumer {
         declaration: Declaration::Undeclared,
         reading: None,
+        mean: None,
     };
     Book {
         stage: Stage::Blank,

@@ -68,10 +68,12 @@ impl Declaration {
     }
 }
 
+// A consumer: what it declared, the reading of its meter, and the mean of its daily maxima, kW, each of these if there is one.
 #[derive(Clone, Copy, Debug, PartialEq, Eq)]
 pub struct Consumer {
     pub declaration: Declaration,
     pub reading: Option<u32>,
+    pub mean: Option<u32>,
 }
 
 // The figures of the close: each consumer's DFA in kW, charge and credit in cents, their sums, and what is distributed to nobody. Arrays

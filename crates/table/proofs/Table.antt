@@ -19,7 +19,7 @@ use Rattle.table.specs.Ranges.{rest_in_range, call_number}
 use Rattle.table.specs.declared.calls.Call.{Call}
 use Rattle.table.specs.declared.calls.Call.TheVariants.{Year, Fix, Close, Unit, Consumer, Contract}
 use Rattle.table.specs.declared.units.UnitCall.TheVariants.{Enrol, Test, Availability}
-use Rattle.table.specs.declared.consumers.ConsumerCall.TheVariants.{Declare, Meter}
+use Rattle.table.specs.declared.consumers.ConsumerCall.TheVariants.{Declare, Meter, Mean}
 use Rattle.table.specs.declared.contracts.ContractCall.TheVariants.{Commit, Release}
 use Rattle.table.specs.declared.forms.Form.{Form}
 use Rattle.table.specs.declared.forms.Mark.{Mark}
@@ -38,6 +38,7 @@ lawful mark.Commit = lawful_by refl refl refl refl refl refl refl refl (λ v e. 
 lawful mark.Release = lawful_by refl refl refl refl refl refl refl refl (λ v e. refl) (λ s e. refl)
 lawful mark.Meter = lawful_by refl refl refl refl refl refl refl refl (λ v e. refl) (λ s e. refl)
 lawful mark.Close = lawful_by refl refl refl refl refl refl refl refl (λ v e. refl) (λ s e. refl)
+lawful mark.Mean = lawful_by refl refl refl refl refl refl refl refl (λ v e. refl) (λ s e. refl)
 
 -- what is found passes the test
 find_passes : {A : Type 0} (test : A → Bool) (xs : List A) (x : A) → find test xs ≡ Some x → test x ≡ true
@@ -76,6 +77,7 @@ of_parts (Unit unit (Test component t)) =
 of_parts (Unit unit (Availability component m)) = record { again = λ e. refl; count = refl; lent = λ rs e. omega arith }
 of_parts (Consumer consumer (Declare d a)) = record { again = λ e. refl; count = refl; lent = λ rs e. omega arith }
 of_parts (Consumer consumer (Meter dreal)) = record { again = λ e. refl; count = refl; lent = λ rs e. omega arith }
+of_parts (Consumer consumer (Mean mean)) = record { again = λ e. refl; count = refl; lent = λ rs e. omega arith }
 of_parts (Contract producer consumer (Commit q)) = record { again = λ e. refl; count = refl; lent = λ rs e. omega arith }
 of_parts (Contract producer consumer (Release q)) = record { again = λ e. refl; count = refl; lent = λ rs e. omega arith }
 

@@ -1,4 +1,4 @@
--- The table of "Journal records": the mark of each record, the width and range of each of its fields, the call that it is, and the calls' names.
+-- The table of "Journal records", and behind it the records of document 02: the mark of each record, the width and range of each of its fields, the call that it is, and the calls' names.
 use Rattle.std.specs.Prelude.{Bool, List, [], ◌∷◌, ◌++◌, map, ℕ, ◌+◌, ◌-◌, ◌*◌, eqb, length, get_or, replicate, Option}
 use Rattle.std.specs.List.{find}
 use Rattle.basis.specs.Sums.{sum}
@@ -86,11 +86,13 @@ table_of mark.Release =
 table_of mark.Meter = line 0x4D 0x54 (column 1 1 byte_consumers ∷ column 4 0 greatest_power ∷ []) 0
 -- close: P
 table_of mark.Close = line 0x43 0x4C (column 2 1 greatest_price ∷ []) 0
+-- mean (document 02, A4): consumer, mean
+table_of mark.Mean = line 0x41 0x54 (column 1 1 byte_consumers ∷ column 4 0 greatest_power ∷ []) 0
 
 -- the records that there are
 abbrev pub marks : List Mark
 marks =
-    mark.Year ∷ mark.Enrol ∷ mark.Test ∷ mark.Availability ∷ mark.Declare ∷ mark.Fix ∷ mark.Commit ∷ mark.Release ∷ mark.Meter ∷ mark.Close ∷ []
+    mark.Year ∷ mark.Enrol ∷ mark.Test ∷ mark.Availability ∷ mark.Declare ∷ mark.Fix ∷ mark.Commit ∷ mark.Release ∷ mark.Meter ∷ mark.Close ∷ mark.Mean ∷ []
 
 -- the widths of columns
 abbrev pub widths_of : List Column → List ℕ
@@ -134,6 +136,7 @@ parts_of (call.Contract producer consumer (contract-call.Release q)) =
     parts mark.Release (producer ∷ consumer ∷ q ∷ zeros 6)
 parts_of (call.Consumer consumer (consumer-call.Meter dreal)) = parts mark.Meter (consumer ∷ dreal ∷ zeros 7)
 parts_of (call.Close p) = parts mark.Close (p ∷ zeros 8)
+parts_of (call.Consumer consumer (consumer-call.Mean mean)) = parts mark.Mean (consumer ∷ mean ∷ zeros 7)
 
 -- the call of a record with these values; with values out of the record's range, a call out of range
 unfoldable pub call_of : Mark → List ℕ → Call
@@ -162,6 +165,7 @@ call_of mark.Commit v = call.Contract (get_or v 0 0) (get_or v 1 0) (contract-ca
 call_of mark.Release v = call.Contract (get_or v 0 0) (get_or v 1 0) (contract-call.Release (get_or v 2 0))
 call_of mark.Meter v = call.Consumer (get_or v 0 0) (consumer-call.Meter (get_or v 1 0))
 call_of mark.Close v = call.Close (get_or v 0 0)
+call_of mark.Mean v = call.Consumer (get_or v 0 0) (consumer-call.Mean (get_or v 1 0))
 
 -- the place of the count of readings among the fields
 abbrev pub count_place : ℕ
@@ -191,6 +195,7 @@ pub data CallName : Type 0 where
   Release : CallName
   Meter : CallName
   Close : CallName
+  Mean : CallName
 
 -- the name of a call
 abbrev pub name_of : Call → CallName
@@ -204,6 +209,7 @@ name_of (call.Contract producer consumer (contract-call.Commit q)) = Commit
 name_of (call.Contract producer consumer (contract-call.Release q)) = Release
 name_of (call.Consumer consumer (consumer-call.Meter dreal)) = Meter
 name_of (call.Close p) = Close
+name_of (call.Consumer consumer (consumer-call.Mean mean)) = Mean
 
 -- a number for each name, by which names are told apart
 abbrev pub name_number : CallName → ℕ
@@ -217,6 +223,7 @@ name_number Commit = 6
 name_number Release = 7
 name_number Meter = 8
 name_number Close = 9
+name_number Mean = 10
 
 -- the call has the name
 abbrev pub is_named : CallName → Call → Bool

@@ -91,6 +91,10 @@ impl From<Parts> for Call {
                 act: ConsumerCall::Meter { dreal },
             },
             (Mark::Close, [p, ..]) => Call::Close { p },
+            (Mark::Mean, [consumer, mean, ..]) => Call::Consumer {
+                consumer,
+                act: ConsumerCall::Mean { mean },
+            },
         }
     }
 }

@@ -4,4 +4,5 @@
 pub enum ConsumerCall {
     Declare { d: u32, a: u32 },
     Meter { dreal: u32 },
+    Mean { mean: u32 },
 }

@@ -16,6 +16,7 @@ pub enum Mark {
     Release,
     Meter,
     Close,
+    Mean,
 }
 
 // A record's mark, low byte first, the bytes of mark and fields together, and each field's width, 0 where there is no field.

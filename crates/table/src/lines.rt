@@ -206,6 +206,11 @@ const CLOSE: Line = Line {
     reading: 0,
 };
 
+const MEAN: Line = Line {
+    mark: 0x5441,
+    ..METER
+};
+
 // The line of a record.
 #[tactic(auto, unfolding(crate::specs::Records::table_of))]
 pub fn line_of(mark: Mark) -> Line
@@ -222,5 +227,6 @@ pub fn line_of(mark: Mark) -> Line
         Mark::Release => RELEASE,
         Mark::Meter => METER,
         Mark::Close => CLOSE,
+        Mark::Mean => MEAN,
     }
 }

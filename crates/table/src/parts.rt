@@ -76,6 +76,13 @@ impl From<Call> for Parts {
                 mark: Mark::Meter,
                 values: [consumer, dreal, 0, 0, 0, 0, 0, 0, 0],
             },
+            Call::Consumer {
+                consumer,
+                act: ConsumerCall::Mean { mean },
+            } => Parts {
+                mark: Mark::Mean,
+                values: [consumer, mean, 0, 0, 0, 0, 0, 0, 0],
+            },
             // Commit and release apart: each call has its arm, as its record has a mark of its own.
             Call::Contract {
                 producer,

@@ -14,7 +14,7 @@ use crate::units::UnitCall;
 use quantities::Refusal;
 
 // All records.
-const MARKS: [Mark; 10] = [
+const MARKS: [Mark; 11] = [
     Mark::Year,
     Mark::Enrol,
     Mark::Test,
@@ -25,6 +25,7 @@ const MARKS: [Mark; 10] = [
     Mark::Release,
     Mark::Meter,
     Mark::Close,
+    Mark::Mean,
 ];
 
 // The record whose mark is the number.

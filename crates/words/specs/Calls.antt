@@ -6,7 +6,7 @@ use Rattle.quantities.specs.Limits.{greatest_count}
 use Rattle.power.specs.Ranges.{readings_of}
 use Rattle.table.specs.declared.calls.Call.{Call}
 use Rattle.table.specs.Records.{CallName, name_of, form_of, parts_of}
-use Rattle.table.specs.Records.{Year, Unit, Test, Availability, Declare, Fix, Commit, Release, Meter, Close}
+use Rattle.table.specs.Records.{Year, Unit, Test, Availability, Declare, Fix, Commit, Release, Meter, Close, Mean}
 use Rattle.text.specs.Text.{decimal}
 
 -- the column Call of the table of records
@@ -21,6 +21,7 @@ name_text Commit = codes "commit"
 name_text Release = codes "release"
 name_text Meter = codes "meter"
 name_text Close = codes "close"
+name_text Mean = codes "mean"
 
 unfoldable pub call_name : Call → List ℕ
 call_name c = name_text (name_of c)

@@ -1,4 +1,5 @@
--- When a number is met: the column When of document 01's table "Numbered replies".
+-- When a number is met: the column When of document 01's table "Numbered replies", where 10 names the mean too, and behind it the numbers of
+-- document 02.
 use Rattle.std.specs.Prelude.{List, [], ◌∷◌, ℕ, get_or, codes}
 use Rattle.words.specs.Numbers.{numbered}
 
@@ -15,12 +16,13 @@ conditions =
     ∷ codes "component foreign to kind"
     ∷ codes "ending 0 with count not TC; ending 1 or 2 with count TC or more"
     ∷ codes "HD + HIF + HMP is 0 or above 1,052,640, or HED > HD + HMP"
-    ∷ codes "consumer not declared (commit, release, meter)"
+    ∷ codes "consumer not declared (commit, release, meter, mean)"
     ∷ codes "producer's balances + q exceed its units' efficient offers"
     ∷ codes "q above the pair's balance"
     ∷ codes "weights sum to 0"
     ∷ codes "a DFA above 3,000,000"
     ∷ codes "output buffer shorter than the record, or than a division's amounts"
+    ∷ codes "close while a declared consumer has neither a reading nor a mean"
     ∷ []
 
 -- when a number is met; nothing where the table has no such number

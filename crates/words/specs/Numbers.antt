@@ -2,7 +2,7 @@
 use Rattle.std.specs.Prelude.{List, [], ◌∷◌, ◌++◌, ℕ, get_or, codes}
 use Rattle.text.specs.Text.{decimal}
 
--- the table of "Numbered replies" in short words, from 0 on
+-- the table of "Numbered replies" in short words, from 0 on, and behind it the numbers of document 02
 unfoldable pub meanings : List (List ℕ)
 meanings =
     codes "accepted"
@@ -21,6 +21,7 @@ meanings =
     ∷ codes "weights sum to 0"
     ∷ codes "adjusted demand above 3,000,000 kW"
     ∷ codes "buffer too short"
+    ∷ codes "consumer without a reading or a mean"
     ∷ []
 
 -- what a number means; nothing where there is no such number

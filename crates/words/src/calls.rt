@@ -48,6 +48,10 @@ fn call_name(call: Call) -> &'static str
             act: ConsumerCall::Meter { .. },
             ..
         } => "meter",
+        Call::Consumer {
+            act: ConsumerCall::Mean { .. },
+            ..
+        } => "mean",
         Call::Contract {
             act: ContractCall::Commit { .. },
             ..

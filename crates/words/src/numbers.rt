@@ -14,7 +14,7 @@ pub const LONGEST_SAID: usize = LONGEST_DECIMAL + LONGEST_WORDS + 2;
 
 pub const LONGEST_AT_PLACE: usize = LONGEST_DECIMAL + 2 + LONGEST_SAID;
 
-// A number in words: what it means, and when it is met, in document 01's words.
+// A number in words: what it means, and when it is met, in the words of document 01 and of document 02's requests.
 #[derive(Clone, Copy, Debug, PartialEq, Eq)]
 struct Words {
     meaning: &'static str,
@@ -72,7 +72,7 @@ fn words_of(number: u32) -> Words
         },
         10 => Words {
             meaning: "consumer not declared",
-            condition: "consumer not declared (commit, release, meter)",
+            condition: "consumer not declared (commit, release, meter, mean)",
         },
         11 => Words {
             meaning: "above the producer's efficient offers",
@@ -93,6 +93,10 @@ fn words_of(number: u32) -> Words
         15 => Words {
             meaning: "buffer too short",
             condition: "output buffer shorter than the record, or than a division's amounts",
+        },
+        16 => Words {
+            meaning: "consumer without a reading or a mean",
+            condition: "close while a declared consumer has neither a reading nor a mean",
         },
         _ => Words {
             meaning: "",

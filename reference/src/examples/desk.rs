@@ -77,7 +77,7 @@ fn each_number_of_a_call_has_its_meaning() {
     let text = "commit 1 1 1\nyear 720 120 4\nunit 1 1 9 0 0 0 0 0 0\nunit 1 1 1 17 0 0 0 0 0\n\
                 unit 1 1 1 17 0 0 0 0 0\ntest 2 0 0 4 0\ntest 1 1 0 4 0\ntest 1 0 0 4 0\n\
                 availability 1 0 0 0 0 0\nfix 1\ndeclare 1 1 1\nfix 3000000\nmeter 9 1\ncommit 1 1 1\n\
-                release 1 1 1\nmeter 1 2\nclose 890\n";
+                release 1 1 1\nclose 890\nmeter 1 2\nclose 890\nmean 9 300\nmean 1 0\n";
     let expected = "\
 0 commit 1 1 1: 4 not in this stage
 8 year 720 120 4: 0 accepted
@@ -94,11 +94,14 @@ fn each_number_of_a_call_has_its_meaning() {
 157 meter 9 1: 10 consumer not declared
 164 commit 1 1 1: 11 above the producer's efficient offers
 172 release 1 1 1: 12 above the pair's balance
-180 meter 1 2: 0 accepted
-187 close 890: 14 adjusted demand above 3,000,000 kW
-191 end of journal
+180 close 890: 16 consumer without a reading or a mean
+184 meter 1 2: 0 accepted
+191 close 890: 14 adjusted demand above 3,000,000 kW
+195 mean 9 300: 10 consumer not declared
+202 mean 1 0: 0 accepted
+209 end of journal
 ";
-    let findings = "yearbook: 12 of 17 records refused, the first at byte 0: 4 not in this stage\n";
+    let findings = "yearbook: 14 of 20 records refused, the first at byte 0: 4 not in this stage\n";
     let journal = text::records(text).unwrap();
     assert_eq!(said(&journal), (expected.to_string(), findings.to_string()));
 }

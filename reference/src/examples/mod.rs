@@ -2,6 +2,7 @@
 
 mod case_j;
 mod desk;
+mod means;
 mod page;
 mod replies;
 mod stages;

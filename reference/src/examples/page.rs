@@ -52,15 +52,19 @@ fn a_book_not_closed_meets_4() {
     for count in 0..16 {
         assert_eq!(page(&run(&after_j(count, "")).book), Err(Number::Stage));
     }
-    let refused = "year 720 120 4\ndeclare 1 1 1\nfix 3000000\nmeter 1 2\nclose 890\n";
-    assert_eq!(page(&run(refused).book), Err(Number::Stage));
+    for reading in ["", "meter 1 2\n"] {
+        let refused = format!("year 720 120 4\ndeclare 1 1 1\nfix 3000000\n{reading}close 890\n");
+        assert_eq!(page(&run(&refused).book), Err(Number::Stage));
+    }
 }
 
 /// The lines of a year in which the last so many of the consumers 1 to 64 declare, the highest number first.
 fn lines_of(consumers: usize) -> Vec<String> {
     let mut text = "year 720 120 4\n".to_string();
     (65 - consumers..=64).rev().for_each(|consumer| text += &format!("declare {consumer} 5 5\n"));
-    lines(&format!("{text}fix {}\nclose 1\n", 7 * consumers))
+    text += &format!("fix {}\n", 7 * consumers);
+    (65 - consumers..=64).for_each(|consumer| text += &format!("meter {consumer} 0\n"));
+    lines(&format!("{text}close 1\n"))
 }
 
 #[test]
@@ -93,7 +97,8 @@ fn every_number_of_consumers_has_its_headings_in_place() {
 
 #[test]
 fn undeclared_consumers_have_no_line_and_declared_0_has_one() {
-    let text = "year 720 120 4\ndeclare 64 0 0\ndeclare 10 3 3\ndeclare 9 0 5\nfix 8\nmeter 9 3\nclose 1\n";
+    let text = "year 720 120 4\ndeclare 64 0 0\ndeclare 10 3 3\ndeclare 9 0 5\nfix 8\nmeter 9 3\nmeter 10 0\n\
+                meter 64 0\nclose 1\n";
     let expected = [
         &heading(1)[..],
         "  9       0       -8             -96",

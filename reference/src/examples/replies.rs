@@ -24,7 +24,7 @@ fn number_2_unknown_mark() {
     let journal = [&text::records("year 720 120 4\n").unwrap()[..], &[0x52, 0x59, 1, 2, 3]].concat();
     assert_eq!(reply_lines(&journal), "0 0\nstop 2 7\nR 1 1 0\n");
     for later in
-        [[0x41, 0x54], [0x64, 0x6D], [0x63, 0x6D], [0x72, 0x6C], [0x6D, 0x74], [0x59, 0x47], [0x4C, 0x56], [0x54, 0x50]]
+        [[0x64, 0x6D], [0x63, 0x6D], [0x72, 0x6C], [0x6D, 0x74], [0x61, 0x74], [0x59, 0x47], [0x4C, 0x56], [0x54, 0x50]]
     {
         assert_eq!(record::read(&later, 0), Err(Number::UnknownMark));
     }
@@ -73,7 +73,7 @@ fn number_9_sums_of_minutes() {
 
 #[test]
 fn number_10_consumer_not_declared() {
-    assert_eq!(replies(&after_j(8, "meter 9 1\ncommit 1 9 1\nrelease 1 9 1"))[8..], [10, 10, 10]);
+    assert_eq!(replies(&after_j(8, "meter 9 1\ncommit 1 9 1\nrelease 1 9 1\nmean 9 1"))[8..], [10, 10, 10, 10]);
 }
 
 #[test]
@@ -131,6 +131,13 @@ fn number_15_buffer_shorter_than_the_record() {
 }
 
 #[test]
+fn number_16_a_declared_consumer_without_a_reading_or_a_mean() {
+    for (more, number) in [("", 16), ("meter 3 1000\n", 0), ("mean 3 1000\n", 0), ("meter 2 1200\n", 16)] {
+        assert_eq!(last(&after_j(14, &format!("{more}close 890"))), number, "{more}");
+    }
+}
+
+#[test]
 fn the_writer_tests_3_before_15() {
     assert_eq!(record::write(&Call::Close(0), &mut []), Err(Number::Range));
     assert_eq!(record::write(&Call::Close(1), &mut []), Err(Number::Buffer));
@@ -151,4 +158,8 @@ fn numbers_are_checked_in_their_order() {
     assert_eq!(replies(&after_j(8, "unit 1 1 1 0 0 0 0 0 0\nfix 1\nyear 720 120 4"))[8..], [4, 4, 4]);
     // 10 before 11 and 12, also for a producer without a unit.
     assert_eq!(replies(&after_j(8, "commit 2 9 1\nrelease 2 9 1\ncommit 2 1 1\nrelease 2 1 1"))[8..], [10, 10, 11, 12]);
+    // 3 before 10, 3 and 4 before 16, 16 before 14.
+    assert_eq!(replies(&after_j(8, "mean 9 3000001\nmean 9 3000000"))[8..], [3, 10]);
+    assert_eq!(replies(&after_j(7, "close 0\nclose 1\nfix 10000\nclose 0\nclose 1"))[7..], [3, 4, 0, 3, 16]);
+    assert_eq!(replies(&after_j(8, "meter 1 3000000\nclose 1\nmean 2 0\nmean 3 0\nclose 1"))[8..], [0, 16, 0, 0, 14]);
 }

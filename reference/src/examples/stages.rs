@@ -62,10 +62,12 @@ fn ranges_of_test_and_availability() {
 }
 
 #[test]
-fn ranges_of_declare_commit_release_and_meter() {
+fn ranges_of_declare_commit_release_meter_and_mean() {
     all_in(&["declare 64 3000000 3000000", "declare 1 0 0", "meter 64 3000000", "meter 1 0"]);
     all_out(&["declare 0 1 1", "declare 65 1 1", "declare 1 3000001 1", "declare 1 1 3000001"]);
     all_out(&["meter 0 1", "meter 65 1", "meter 1 3000001"]);
+    all_in(&["mean 64 3000000", "mean 1 0"]);
+    all_out(&["mean 0 1", "mean 65 1", "mean 1 3000001", "mean 255 4294967295"]);
     for name in ["commit", "release"] {
         all_in(&[&format!("{name} 16 64 3000000"), &format!("{name} 1 1 1")]);
         all_out(&[&format!("{name} 0 1 1"), &format!("{name} 17 1 1"), &format!("{name} 1 0 1")]);
@@ -75,16 +77,16 @@ fn ranges_of_declare_commit_release_and_meter() {
 
 /// One call of each name, in range.
 const ALL: &str = "unit 2 1 1 0 0 0 0 0 0\ntest 1 0 2 4 0\navailability 1 0 1 0 0 0\ndeclare 1 1 1\n\
-                   commit 1 1 1\nrelease 1 1 1\nmeter 1 1\n";
+                   commit 1 1 1\nrelease 1 1 1\nmeter 1 1\nmean 1 1\n";
 
 #[test]
 fn each_call_belongs_to_its_stage() {
-    assert_eq!(replies(&format!("{ALL}fix 1\nclose 1\n")), [4; 9]);
-    assert_eq!(replies(&after_j(4, &format!("{ALL}close 1\nyear 720 120 4")))[4..], [0, 0, 0, 0, 4, 4, 4, 4, 4]);
-    let firm = replies(&after_j(8, &format!("{ALL}fix 1\nyear 720 120 4\nclose 1")));
-    assert_eq!(firm[8..], [4, 4, 4, 4, 0, 0, 0, 4, 4, 0]);
+    assert_eq!(replies(&format!("{ALL}fix 1\nclose 1\n")), [4; 10]);
+    assert_eq!(replies(&after_j(4, &format!("{ALL}close 1\nyear 720 120 4")))[4..], [0, 0, 0, 0, 4, 4, 4, 4, 4, 4]);
+    let firm = replies(&after_j(8, &format!("{ALL}meter 2 1\nmean 3 1\nfix 1\nyear 720 120 4\nclose 1")));
+    assert_eq!(firm[8..], [4, 4, 4, 4, 0, 0, 0, 0, 0, 0, 4, 4, 0]);
     let closed = replies(&after_j(16, &format!("{ALL}fix 1\nclose 1\nyear 720 120 4")));
-    assert_eq!(closed[16..], [4; 10]);
+    assert_eq!(closed[16..], [4; 11]);
 }
 
 #[test]
@@ -103,12 +105,19 @@ fn a_run_without_a_refusal_names_no_place() {
 
 #[test]
 fn refused_calls_leave_the_book_as_it_was() {
-    for refused in
-        ["unit 1 1 1 0 0 0 0 0 0", "test 1 0 0 4 3 9 9 9", "availability 1 0 0 0 0 0", "close 0", "meter 1 1"]
-    {
+    for refused in [
+        "unit 1 1 1 0 0 0 0 0 0",
+        "test 1 0 0 4 3 9 9 9",
+        "availability 1 0 0 0 0 0",
+        "close 0",
+        "meter 1 1",
+        "mean 1 1",
+    ] {
         assert_eq!(run(&after_j(4, refused)).book, run(&after_j(4, "")).book);
     }
-    for refused in ["commit 1 1 9501", "release 1 1 1", "meter 9 1", "declare 1 1 1"] {
+    for refused in
+        ["commit 1 1 9501", "release 1 1 1", "meter 9 1", "declare 1 1 1", "mean 9 1", "mean 1 3000001", "close 1"]
+    {
         assert_eq!(run(&after_j(8, refused)).book, run(&after_j(8, "")).book);
     }
 }

@@ -99,11 +99,13 @@ fn each_number_has_the_words_of_its_row() {
         (unit, "test 1 1 0 4 0", "7 component foreign to kind"),
         (unit, "test 1 0 0 4 0", "8 ending 0 with count not TC; ending 1 or 2 with count TC or more"),
         (unit, "availability 1 0 0 0 0 0", "9 HD + HIF + HMP is 0 or above 1,052,640, or HED > HD + HMP"),
-        (firm, "meter 9 1", "10 consumer not declared (commit, release, meter)"),
+        (firm, "meter 9 1", "10 consumer not declared (commit, release, meter, mean)"),
+        (firm, "mean 9 1", "10 consumer not declared (commit, release, meter, mean)"),
         (firm, "commit 1 1 1", "11 producer's balances + q exceed its units' efficient offers"),
         (firm, "release 1 1 1", "12 q above the pair's balance"),
         (unit, "fix 1", "13 weights sum to 0"),
         (metered, "close 1", "14 a DFA above 3,000,000"),
+        (firm, "close 1", "16 close while a declared consumer has neither a reading nor a mean"),
     ] {
         let place = text::records(before).unwrap().len();
         assert_eq!(first_refused(&format!("{before}{call}\n")), format!("first refused record at byte {place}: {row}"));

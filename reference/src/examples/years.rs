@@ -18,8 +18,8 @@ fn later_results_availabilities_declarations_and_readings_replace_the_earlier() 
     let text = "year 720 120 4\nunit 7 3 1 17 0 0 0 0 0\ntest 7 0 0 4 4 9 9 9 9\ntest 7 0 0 4 4 25 25 25 25\n\
                 test 7 0 1 4 3 99 99 99\navailability 7 0 1 0 0 0\navailability 7 0 1 0 1 0\n\
                 declare 5 1 1\ndeclare 5 0 0\ndeclare 6 10 10\nfix 100\n\
-                meter 6 30\nmeter 6 10\nclose 1\n";
-    assert_eq!(listed(text), "U 7 50 50\nP 3 50 0\nD 5 0\nD 6 100\nS 5 0 0\nS 6 0 0\nT 0 0 0\nR 14 14 0\n");
+                meter 5 0\nmeter 6 30\nmeter 6 10\nclose 1\n";
+    assert_eq!(listed(text), "U 7 50 50\nP 3 50 0\nD 5 0\nD 6 100\nS 5 0 0\nS 6 0 0\nT 0 0 0\nR 15 15 0\n");
 }
 
 #[test]
@@ -75,11 +75,11 @@ fn a_charge_needs_100_d_below_98_a_strictly() {
 }
 
 #[test]
-fn no_reading_counts_as_0_and_credits_go_to_all_positive_adjustments() {
+fn credits_go_to_all_positive_adjustments() {
     // Consumer 1 declared below its projection too, and has a credit.
     let lines = settled(&[(2500, 3_000_000), (2500, 2500), (5000, 6000)], &[0, 0, 5001]);
     assert_eq!(lines, "S 1 2500 6\nS 2 2500 6\nS 3 -1 -12\nT 12 12 0\n");
-    let lines = settled(&[(2500, 3_000_000), (2500, 2500), (5000, 6000)], &[]);
+    let lines = settled(&[(2500, 3_000_000), (2500, 2500), (5000, 6000)], &[0, 0, 0]);
     assert_eq!(lines, "S 1 2500 0\nS 2 2500 0\nS 3 5000 0\nT 0 0 0\n");
 }
 
@@ -128,7 +128,8 @@ fn balances_follow_commitments_and_releases() {
 
 #[test]
 fn declared_0_kw_is_declared() {
-    let text = after_j(7, "declare 4 0 1\nfix 10000\ncommit 1 4 7\nmeter 4 1\nclose 1");
-    assert_eq!(replies(&text)[7..], [0, 0, 0, 0, 0]);
+    let text = "declare 4 0 1\nfix 10000\ncommit 1 4 7\nmeter 1 0\nmeter 2 0\nmeter 3 0\nclose 1\nmeter 4 1\nclose 1";
+    let text = after_j(7, text);
+    assert_eq!(replies(&text)[7..], [0, 0, 0, 0, 0, 0, 16, 0, 0]);
     assert!(listed(&text).contains("\nD 4 0\n") && listed(&text).contains("\nS 4 -3 -36\n"));
 }

@@ -3,7 +3,7 @@
 use super::calls::{self, Style, Trial};
 use super::draw::Draw;
 use crate::book::Book;
-use crate::call::{Availability, Call, Contract, Meter, Test};
+use crate::call::{Availability, Call, Contract, Mean, Meter, Test};
 use crate::number::reply;
 use crate::plant::PowerTest;
 use crate::range::{CONSUMERS, MOST_KW, PRODUCERS};
@@ -47,6 +47,16 @@ impl Draft {
         numbers(self.book.consumers.iter().map(|consumer| consumer.is_some() == declared))
     }
 
+    /// 02 "A4": declared consumers that have a reading or a mean.
+    pub fn with_dreal(&self) -> Vec<u8> {
+        numbers(self.book.consumers.iter().map(|held| held.is_some_and(|held| held.dreal().is_some())))
+    }
+
+    /// 02 "A4": declared consumers that have neither a reading nor a mean.
+    pub fn without_dreal(&self) -> Vec<u8> {
+        numbers(self.book.consumers.iter().map(|held| held.is_some_and(|held| held.dreal().is_none())))
+    }
+
     /// Pairs of a producer and a consumer with a balance above 0.
     pub fn pairs(&self) -> Vec<(u8, u8)> {
         let mut pairs = Vec::new();
@@ -66,8 +76,8 @@ impl Draft {
         held.efficient - held.committed
     }
 
-    /// 01 "Numbered replies", 14: the greatest reading whose DFA is not above 3,000,000.
-    pub fn greatest_reading(&self) -> u32 {
+    /// 01 "Numbered replies", 14: the greatest Dreal whose DFA is not above 3,000,000.
+    pub fn greatest_dreal(&self) -> u32 {
         let most = (u128::from(MOST_KW) + 1) * u128::from(self.book.declared) - 1;
         (most / u128::from(self.book.dmp.max(1))).min(MOST_KW.into()) as u32
     }
@@ -80,7 +90,7 @@ impl Draft {
         let consumer = draw.byte(1, style.consumers.min(63) + 1);
         let producer = draw.byte(1, style.producers.min(15) + 1);
         let contract = Contract { producer, consumer, q: draw.near(style.scale, MOST_KW).max(1) };
-        let call = match draw.between(0, 9) {
+        let call = match draw.between(0, 10) {
             0 => Call::Year(calls::year(draw)),
             1 => Call::Unit(calls::unit(draw, style, &book.hours, unit)),
             2 => return test_record(unit, component, &calls::trial(draw, style)),
@@ -90,7 +100,8 @@ impl Draft {
             6 => Call::Commit(contract),
             7 => Call::Release(contract),
             8 => Call::Meter(Meter { consumer, dreal: draw.figure(MOST_KW) }),
-            _ => Call::Close(1 + draw.figure(2_499) as u16),
+            9 => Call::Close(1 + draw.figure(2_499) as u16),
+            _ => Call::Mean(Mean { consumer, mean: draw.figure(MOST_KW) }),
         };
         record::bytes(&call)
     }

@@ -3,7 +3,7 @@
 use super::calls::{self, Trial};
 use super::draft::{any_consumer, any_producer, test_record, Draft};
 use crate::book::{stage_of, Stage};
-use crate::call::{Availability, Call, Contract, Meter};
+use crate::call::{Availability, Call, Contract, Mean, Meter};
 use crate::plant::{Minutes, MOST_MINUTES};
 use crate::range::{self, MOST_KW, MOST_READING};
 use crate::record;
@@ -175,10 +175,11 @@ fn undeclared(draft: &mut Draft) {
     let consumer = draft.draw.pick(&consumers);
     let producer = any_producer(&mut draft.draw);
     let q = draft.draw.near(draft.style.scale, MOST_KW).max(1);
-    let call = match draft.draw.between(0, 2) {
+    let call = match draft.draw.between(0, 3) {
         0 => Call::Commit(Contract { producer, consumer, q }),
         1 => Call::Release(Contract { producer, consumer, q }),
-        _ => Call::Meter(Meter { consumer, dreal: q }),
+        2 => Call::Meter(Meter { consumer, dreal: q }),
+        _ => Call::Mean(Mean { consumer, mean: q }),
     };
     draft.put(&call);
 }

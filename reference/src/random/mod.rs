@@ -1,6 +1,7 @@
 //! Seeded random journals.
 
 mod calls;
+mod demand;
 mod draft;
 mod draw;
 mod faults;
@@ -10,6 +11,7 @@ use std::fs;
 use std::io;
 use std::path::Path;
 
+use crate::book::Stage;
 use crate::call::{Call, Year, FORMS};
 use crate::journal::run;
 use crate::listing::MOST_BYTES;
@@ -55,7 +57,7 @@ fn season(draft: &mut Draft) {
     season::fix(draft);
     let steps = draft.draw.pick(&[0, 3, 8, 8, 20, 60]);
     season::contract(draft, steps, MOST_BYTES);
-    season::close(draft);
+    demand::close(draft);
     if draft.draw.chance(20) {
         for _ in 0..draft.draw.between(1, 4) {
             let record = draft.any_record();
@@ -78,7 +80,7 @@ fn about_a_refusal(draft: &mut Draft) {
     }
     match draw.between(0, 2) {
         0 => {}
-        1 => journal.extend_from_slice(&FORMS[draw.between(0, 9) as usize].mark),
+        1 => journal.extend_from_slice(&FORMS[draw.between(0, 10) as usize].mark),
         _ => journal.extend_from_slice(b"RY and so on"),
     }
 }
@@ -91,7 +93,7 @@ fn about_a_page(draft: &mut Draft) {
     season::open(draft);
     season::gather(draft, MOST_BYTES);
     season::fix(draft);
-    season::close(draft);
+    demand::close(draft);
 }
 
 /// 01 "Numbered replies", 1: the journal up to any of its bytes.
@@ -113,12 +115,12 @@ fn damage(draft: &mut Draft) {
             journal.splice(place..place, garbage);
         }
         4 => {
-            let foreign: [u8; 2] = draw.pick(&[*b"AT", *b"dm", *b"YG", *b"LV", *b"TP", *b"yr", *b"RY", *b"\0\0"]);
+            let foreign: [u8; 2] = draw.pick(&[*b"at", *b"dm", *b"YG", *b"LV", *b"TP", *b"yr", *b"RY", *b"\0\0"]);
             journal.extend_from_slice(&foreign);
             journal.extend_from_slice(&garbage);
         }
         _ => {
-            let mark = FORMS[draw.between(0, 9) as usize].mark;
+            let mark = FORMS[draw.between(0, 10) as usize].mark;
             *journal = [&mark[..], &garbage].concat();
         }
     }
@@ -135,7 +137,7 @@ fn at_the_limit(draft: &mut Draft) {
     }
     season::fix(draft);
     season::contract(draft, u64::MAX, length - 8_000);
-    season::close(draft);
+    demand::close(draft);
     pad(draft, length);
 }
 
@@ -151,7 +153,7 @@ fn pad(draft: &mut Draft, length: usize) {
     }
 }
 
-/// 01 "The list of demand 3": calls in any order and number.
+/// 01 "The list of demand 3": calls in any order and number, and often real demands for a close behind them.
 fn any_order(draft: &mut Draft) {
     for _ in 0..draft.draw.between(0, 120) {
         let record = draft.any_record();
@@ -160,12 +162,14 @@ fn any_order(draft: &mut Draft) {
             faults::fault(draft);
         }
     }
+    if draft.book.stage == Stage::Firm && draft.draw.chance(75) {
+        demand::close(draft);
+    }
 }
 
 #[cfg(test)]
 mod tests {
     use super::*;
-    use crate::book::Stage;
     use crate::journal::run_with;
 
     #[test]
@@ -177,7 +181,7 @@ mod tests {
 
     #[test]
     fn every_number_of_a_journal_occurs_and_most_journals_close() {
-        let mut met = [0; 15];
+        let mut met = [0; 17];
         let mut closed = 0;
         for number in 0..600 {
             let run = run_with(&journal(1, number), |_, _, reply| met[usize::from(reply)] += 1);
@@ -186,7 +190,9 @@ mod tests {
             }
             closed += u32::from(run.book.stage == Stage::Closed);
         }
-        assert!(met.iter().all(|&times| times >= 5), "{met:?}");
+        // 15 is of the writer and the division alone.
+        assert!((0..=16).all(|number| met[number] >= 5 || number == 15), "{met:?}");
+        assert_eq!(met[15], 0);
         assert!(closed > 450);
     }
 

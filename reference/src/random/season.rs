@@ -1,14 +1,15 @@
-//! The stages of a drafted journal, from the year to the close.
+//! The stages of a drafted journal, from the year to the contracts.
 
 use super::calls;
+use super::demand;
 use super::draft::{any_consumer, shuffle, shuffled, test_record, Draft};
 use super::faults::fault;
 use crate::book::Stage;
-use crate::call::{Availability, Call, Contract, Declare, Meter, FIRST_YEAR, SECOND_YEAR};
+use crate::call::{Availability, Call, Contract, Declare, FIRST_YEAR, SECOND_YEAR};
 use crate::range::{CONSUMERS, MOST_KW, PRODUCERS, UNITS};
 
 /// Adds faults at the style's rate.
-fn perhaps_fault(draft: &mut Draft) {
+pub fn perhaps_fault(draft: &mut Draft) {
     while draft.draw.chance(draft.style.errors) {
         fault(draft);
     }
@@ -178,7 +179,7 @@ pub fn fix(draft: &mut Draft) {
     draft.put(&Call::Fix(dmp.max(1)));
 }
 
-/// 01 "The book": `steps` commitments and releases near their limits, and readings.
+/// 01 "The book": `steps` commitments and releases near their limits, and real demands.
 pub fn contract(draft: &mut Draft, steps: u64, most_bytes: usize) {
     let consumers = draft.consumers(true);
     for _ in 0..steps {
@@ -190,7 +191,7 @@ pub fn contract(draft: &mut Draft, steps: u64, most_bytes: usize) {
         match draft.draw.between(0, 9) {
             0..=5 => commit(draft, consumer),
             6..=8 => release(draft),
-            _ => meter(draft, consumer, 100),
+            _ => demand::enter(draft, consumer, 100),
         }
     }
 }
@@ -231,46 +232,4 @@ fn release(draft: &mut Draft) {
     };
     let q = q.clamp(1, MOST_KW.into()) as u32;
     draft.put(&Call::Release(Contract { producer, consumer, q }));
-}
-
-/// 01 "Close" (2.6.5.2): a reading about `percent` of what was declared, seldom one that meets 14.
-fn meter(draft: &mut Draft, consumer: u8, percent: u64) {
-    let greatest = draft.greatest_reading();
-    let declared = draft.book.consumers[usize::from(consumer) - 1].map_or(0, |consumer| consumer.d);
-    let middle = (u64::from(declared) * percent / 100).min(MOST_KW.into()) as u32;
-    let dreal = match draft.draw.between(0, 49) {
-        0 if greatest < MOST_KW => greatest + 1,
-        1 => greatest,
-        2 => draft.draw.figure(MOST_KW),
-        3 | 4 => draft.draw.figure(greatest),
-        5 => 0,
-        _ => draft.draw.near(middle, greatest),
-    };
-    draft.put(&Call::Meter(Meter { consumer, dreal }));
-}
-
-/// 01 "Close" (2.6.5.2): readings and the close, a second one with lower readings where the first met 14.
-pub fn close(draft: &mut Draft) {
-    let percent = draft.draw.pick(&[50, 90, 98, 100, 100, 102, 110, 150, 300]);
-    for consumer in draft.consumers(true) {
-        perhaps_fault(draft);
-        if draft.draw.chance(90) {
-            meter(draft, consumer, percent);
-        }
-        if draft.draw.chance(6) {
-            meter(draft, consumer, percent);
-        }
-    }
-    let price = draft.draw.pick(&[1, 890, 890, 2_500, 7, 1_333]);
-    if draft.put(&Call::Close(price)) == 14 && draft.draw.chance(85) {
-        let greatest = draft.greatest_reading();
-        for consumer in draft.consumers(true) {
-            let reading = draft.book.consumers[usize::from(consumer) - 1].map_or(0, |consumer| consumer.dreal);
-            if reading > greatest {
-                let dreal = if draft.draw.chance(50) { greatest } else { draft.draw.figure(greatest) };
-                draft.put(&Call::Meter(Meter { consumer, dreal }));
-            }
-        }
-        draft.put(&Call::Close(price));
-    }
 }
