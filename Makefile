@@ -12,13 +12,14 @@ run:
 flags = $(firstword -$(MAKEFLAGS))
 caller = $(or $(if $(findstring w,$(flags))$(findstring s,$(flags))$(filter --no-print-directory,$(MAKEFLAGS)),$(PWD)),$(CURDIR))
 
-#: test       proves every crate, tries every must-fail edit, runs every program and every test; SEED=1 COUNT=5000 choose the random journals
+#: test       proves every crate, tries every must-fail edit, runs every program and every test; SEED= COUNT= choose the random journals (1, 5000) and outage logs (1, 20000)
 test:
 	@scripts/test
 
-#: bench      measures the division against plain C, and the program and its C function against the reference
+#: bench      measures the division and the outage log against plain C, and the program and its C function against the reference
 bench:
 	@scripts/bench-share
+	@scripts/bench-plant
 	@scripts/bench-yearbook
 
 #: libraries  proves and builds the static and shared libraries for C in target/lib

@@ -11,7 +11,6 @@ use crate::offer;
 use crate::page;
 use crate::plant::{Component, Minutes, PowerTest};
 use crate::range::{self, UNITS};
-use crate::record;
 use crate::summary;
 
 /// 01 "The book": the one unit of the plant cases, its cap and its three components.
@@ -139,47 +138,6 @@ fn most_one(number: u64) -> u8 {
     u8::try_from(number).unwrap_or(u8::MAX)
 }
 
-/// 01 "Journal records": reads one record of each item, a length of 2 bytes and as many bytes, and writes it again.
-pub fn records(input: &[u8]) -> Result<String, String> {
-    let mut answers = String::new();
-    let mut rest = input;
-    while let Some((length, behind)) = rest.split_first_chunk::<2>() {
-        let length = usize::from(u16::from_le_bytes(*length));
-        let (item, behind) = behind.split_at_checked(length).ok_or("the last item is cut short")?;
-        answers.push_str(&record_answer(item));
-        answers.push('\n');
-        rest = behind;
-    }
-    match rest {
-        [] => Ok(answers),
-        _ => Err("the last length is cut short".to_string()),
-    }
-}
-
-/// 01 "Journal records": how one item is read, its number 3 or 0, and the record that the writer makes of it.
-fn record_answer(item: &[u8]) -> String {
-    if item.is_empty() {
-        return "end".to_string();
-    }
-    let (call, next) = match record::read(item, 0) {
-        Ok(record) => record,
-        Err(number) => return format!("stop {}", number as u8),
-    };
-    let fields: Vec<String> = call.fields().iter().map(u32::to_string).collect();
-    let number = if range::holds(&call) { 0 } else { Number::Range as u8 };
-    let mut buffer = vec![0; next];
-    let written = match record::write(&call, &mut buffer) {
-        Ok(length) => hexadecimal(&buffer[..length]),
-        Err(number) => (number as u8).to_string(),
-    };
-    format!("read {} {next} {} {number} {written}", hexadecimal(&call.form().mark), fields.join(" "))
-}
-
-/// Bytes as lowercase hexadecimal digits.
-fn hexadecimal(bytes: &[u8]) -> String {
-    bytes.iter().map(|byte| format!("{byte:02x}")).collect()
-}
-
 /// 01 "Journal records", "Numbered replies": each record's place and reply, the stop, then the listing.
 pub fn replies(journal: &[u8]) -> Vec<u8> {
     let mut lines = String::new();
@@ -228,21 +186,6 @@ mod tests {
         for line in ["", "5", "0 1", "1 3 0 4 0 0", "1 0 0 4 4 16 1", "2 0 1 1 1", "3 9 0 0 0 0 0 1 1 1", "4 1", "x"] {
             assert_eq!(plant(&format!("0 0 0\n{line}\n")), Err("line 2: no plant case".to_string()), "{line}");
         }
-    }
-
-    #[test]
-    fn record_items_are_read_and_written_again() {
-        let year = [0x59, 0x52, 0xD0, 2, 120, 0, 4];
-        let mut input = vec![9, 0];
-        input.extend_from_slice(&year);
-        input.extend_from_slice(&[0xFF, 0xFF]);
-        input.extend_from_slice(&[0, 0, 1, 0, 0x59, 2, 0, 0, 0]);
-        input.extend_from_slice(&[4, 0, 0x43, 0x4C, 0, 0]);
-        input.extend_from_slice(&[11, 0, 0x54, 0x53, 1, 0, 1, 4, 1, 1, 2, 0, 0]);
-        let answers = "read 5952 7 720 120 4 0 5952d002780004\nend\nstop 1\nstop 2\nread 434c 4 0 3 3\n\
-                       read 5453 11 1 0 1 4 1 0 5453010001040101020000\n";
-        assert_eq!(records(&input).unwrap(), answers);
-        assert!(records(&[1]).is_err() && records(&[1, 0]).is_err());
     }
 
     #[test]

@@ -9,11 +9,11 @@ use std::process::ExitCode;
 use reference::field::decimal;
 use reference::lines::Lines;
 use reference::listing::{self, MOST_BYTES};
-use reference::{card, cases, desk, lines, random, text};
+use reference::{card, cases, desk, items, lines, random, text};
 
 /// The subcommands.
 const USAGE: &str = "usage: reference yearbook | desk [FILE..] | page [FILE..] | figures [FILE..] | plant | counts | \
-                     record | replies | text | lines | random SEED COUNT DIR";
+                     record | outages | replies | text | lines | random SEED COUNT DIR | logs SEED COUNT";
 
 /// 01 "Journal in, listing out": the bytes from which the program sees that its input is too long.
 const ENOUGH: u64 = MOST_BYTES as u64 + 1;
@@ -54,7 +54,8 @@ fn answer(words: &[&str]) -> Result<Answer, String> {
         ["figures", files @ ..] => each(files, u64::MAX, cases::figures)?,
         ["plant"] => cases::plant(&input_text()?)?.into_bytes(),
         ["counts"] => card::counts().into_bytes(),
-        ["record"] => cases::records(&input(u64::MAX)?)?.into_bytes(),
+        ["record"] => items::records(&input(u64::MAX)?)?.into_bytes(),
+        ["outages"] => items::outages(&input(u64::MAX)?)?.into_bytes(),
         ["replies"] => cases::replies(&input(u64::MAX)?),
         ["text"] => text::records(input(u64::MAX)?)?,
         ["lines"] => {
@@ -68,6 +69,7 @@ fn answer(words: &[&str]) -> Result<Answer, String> {
             random::write_journals(seed, count, Path::new(folder)).map_err(|error| error.to_string())?;
             Vec::new()
         }
+        ["logs", seed, count] => random::logs::items(decimal(seed).ok_or(USAGE)?, decimal(count).ok_or(USAGE)?),
         _ => return Err(USAGE.to_string()),
     };
     Ok(Answer { output, message: None })

@@ -36,6 +36,8 @@ pub enum Number {
     Buffer = 15,
     /// 02 "A4", 16, checked before 14: close while a declared consumer has neither a reading nor a mean.
     NoRealDemand = 16,
+    /// 02 "A5", 17, after 3: a window or an entry whose end is not after its start, a window too long, or an entry out of order.
+    OutOfOrder = 17,
 }
 
 /// 01 "Numbered replies": an accepted call returns 0, a refused one its number.
@@ -47,7 +49,7 @@ pub fn reply(result: Result<(), Number>) -> u8 {
 }
 
 /// 01 "Numbered replies": what each number means in short words, from 0, an accepted call.
-const MEANINGS: [&str; 17] = [
+const MEANINGS: [&str; 18] = [
     "accepted",
     "record cut short",
     "unknown mark",
@@ -65,6 +67,7 @@ const MEANINGS: [&str; 17] = [
     "adjusted demand above 3,000,000 kW",
     "buffer too short",
     "consumer without a reading or a mean",
+    "outage log out of order",
 ];
 
 /// 01 "Numbered replies": a number and what it means in short words.
@@ -73,7 +76,7 @@ pub fn in_words(number: u8) -> String {
 }
 
 /// 01 "Numbered replies": the column When, from number 1.
-const CONDITIONS: [&str; 16] = [
+const CONDITIONS: [&str; 17] = [
     "record cut short",
     "unknown mark",
     "field outside its range; a division's T, weights or their number",
@@ -90,6 +93,7 @@ const CONDITIONS: [&str; 16] = [
     "a DFA above 3,000,000",
     "output buffer shorter than the record, or than a division's amounts",
     "close while a declared consumer has neither a reading nor a mean",
+    "a window or an entry whose end is not after its start, a window too long, or an entry out of order",
 ];
 
 /// 01 "Numbered replies": a number and when it is met, as its row has it.

@@ -1,4 +1,5 @@
-//! The program's answers: standard output, standard error and the status of `text`, `lines`, `page` and `figures`.
+//! The program's answers: standard output, standard error and the status of `text`, `lines`, `page`, `figures`, `outages` and
+//! `logs`.
 
 use std::fs::File;
 use std::io::Write;
@@ -68,6 +69,24 @@ fn figures_are_a_line_for_each_file() {
 }
 
 #[test]
+fn figures_of_a_log_are_a_line_for_each_item() {
+    let log = b"\x15\0\x64\0\0\0\x6E\0\0\0\x05\0\0\0\x62\0\0\0\x67\0\0\0\x02";
+    answers(&["outages"], log, b"0 7 0 3 5\n", "", 0);
+    answers(&["outages"], &[&log[..], b"\0\0"].concat(), b"0 7 0 3 5\n3\n", "", 0);
+    answers(&["outages"], &log[..22], b"", "the last item is cut short\n", 1);
+    answers(&["outages"], b"\0", b"", "the last length is cut short\n", 1);
+}
+
+#[test]
+fn random_logs_are_items_each_of_which_has_an_answer() {
+    let logs = answer(&["logs", "1", "100"], b"", Stdio::piped());
+    assert_eq!((logs.status.code(), logs.stderr), (Some(0), Vec::new()));
+    let lines = answer(&["outages"], &logs.stdout, Stdio::piped());
+    assert_eq!(String::from_utf8_lossy(&lines.stdout).lines().count(), 100);
+    answers(&["logs", "1", "0"], b"", b"", "", 0);
+}
+
+#[test]
 fn output_that_cannot_be_written_is_said() {
     let full = || Stdio::from(File::options().write(true).open("/dev/full").expect("/dev/full is there"));
     let for_reading = || Stdio::from(File::open("/dev/null").expect("/dev/null is there"));
@@ -86,7 +105,17 @@ fn output_that_cannot_be_written_is_said() {
 
 #[test]
 fn other_words_give_the_usage() {
-    for words in [&["text", "k.txt"][..], &["lines", "j.journal"], &["counts", "96"], &["records"], &[]] {
+    let other: [&[&str]; 8] = [
+        &["text", "k.txt"],
+        &["lines", "j.journal"],
+        &["counts", "96"],
+        &["outages", "logs"],
+        &["logs", "1"],
+        &["logs", "1", "x"],
+        &["records"],
+        &[],
+    ];
+    for words in other {
         let answer = answer(words, b"", Stdio::piped());
         assert_eq!((answer.stdout, answer.status.code()), (Vec::new(), Some(1)));
         assert!(String::from_utf8_lossy(&answer.stderr).starts_with("usage: reference "));

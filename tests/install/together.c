@@ -1,7 +1,8 @@
 /*
  * Calls all libraries in one program: writes the listing of a journal, then an
  * equal division of 10,000, an amount to a line, then the card's count for the
- * greatest full time.
+ * greatest full time, then the figures of an outage log, a figure to a line: of
+ * 1,000 minutes the first 60 planned, the last 40 forced, and HED 10.
  *
  * usage: together JOURNAL
  */
@@ -12,11 +13,24 @@
 #include "share.h"
 #include "yearbook.h"
 
+/* The number of so many bytes, low byte first. */
+static uint64_t number_at(const uint8_t *at, int size)
+{
+    uint64_t number = 0;
+
+    for (int i = size; i > 0; i--)
+        number = number << 8 | at[i - 1];
+    return number;
+}
+
 int main(int argc, char **argv)
 {
     static uint8_t journal[65536], listing[YEARBOOK_LISTING_MAX];
     static const uint8_t weights[3 * SHARE_WEIGHT_SIZE] = {1, 0, 0, 0, 1, 0, 0, 0, 1, 0, 0, 0};
-    uint8_t amounts[3 * SHARE_AMOUNT_SIZE];
+    static const uint8_t log[] = {0,    0, 0, 0, 0xe8, 3, 0, 0, 10, 0, 0, 0,
+                                  0,    0, 0, 0, 60,   0, 0, 0, PLANT_PLANNED,
+                                  0xc0, 3, 0, 0, 0xe8, 3, 0, 0, PLANT_FORCED};
+    uint8_t amounts[3 * SHARE_AMOUNT_SIZE], figures[PLANT_FIGURES_SIZE];
     uint64_t written;
 
     FILE *file = argc == 2 ? fopen(argv[1], "rb") : NULL;
@@ -31,12 +45,13 @@ int main(int argc, char **argv)
 
     if (share_divide(10000, weights, sizeof weights, amounts, sizeof amounts) != SHARE_OK)
         return 1;
-    for (int k = 0; k < 3; k++) {
-        uint64_t amount = 0;
-        for (int i = SHARE_AMOUNT_SIZE; i > 0; i--)
-            amount = amount << 8 | amounts[k * SHARE_AMOUNT_SIZE + i - 1];
-        printf("%" PRIu64 "\n", amount);
-    }
+    for (int k = 0; k < 3; k++)
+        printf("%" PRIu64 "\n", number_at(amounts + k * SHARE_AMOUNT_SIZE, SHARE_AMOUNT_SIZE));
     printf("%" PRIu32 "\n", plant_least_count(PLANT_TIME_MAX));
+
+    if (plant_outages(log, sizeof log, figures, sizeof figures) != PLANT_OK)
+        return 1;
+    for (int k = 0; k < 4; k++)
+        printf("%" PRIu64 "\n", number_at(figures + 4 * k, 4));
     return 0;
 }

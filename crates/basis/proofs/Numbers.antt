@@ -87,6 +87,25 @@ module _ {A : Type 0} where
   length-written old at new h =
       simp (length-append, length-take, length-drop) (omega arith)
 
+-- the number at a place is its lowest byte, and 256 times the number behind it
+pub number_at-suc : (w : ℕ) (s : List ℕ) (at : ℕ) → number_at (suc w) s at ≡ get_or s at 0 + 256 * number_at w s (suc at)
+unfolding number
+number_at-suc zero [] zero = refl
+number_at-suc (suc w) [] zero = refl
+number_at-suc w (b ∷ s) zero = refl
+number_at-suc zero [] (suc at) = refl
+number_at-suc (suc w) [] (suc at) = refl
+number_at-suc w (b ∷ s) (suc at) = number_at-suc w s at
+
+-- .. of one byte, and of four
+pub number_at-one : (s : List ℕ) (at : ℕ) → number_at 1 s at ≡ get_or s at 0
+unfolding number
+number_at-one s at = omega (arith, number_at-suc 0 s at)
+
+pub number_at-four : (s : List ℕ) (at : ℕ) → number_at 4 s at ≡ get_or s at 0 + get_or s (suc at) 0 * 256 + get_or s (suc (suc at)) 0 * 65536 + get_or s (suc (suc (suc at))) 0 * 16777216
+number_at-four s at =
+    omega (arith, number_at-suc 3 s at, number_at-suc 2 s (suc at), number_at-suc 1 s (suc (suc at)), number_at-one s (suc (suc (suc at))))
+
 -- one digit more to the right, in front of what was read
 pub digit_more : (w x b : ℕ) → x < 256 ^ w → b < 256 → x * 256 + b < 256 ^ suc w
 digit_more w x b h p = rw (pow-succ' 256 w) (omega arith)

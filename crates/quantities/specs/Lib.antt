@@ -1,4 +1,4 @@
--- The limits of document 01, the flags of a unit, and the numbered replies.
+-- The limits of the papers, the flags of a unit, and the numbered replies.
 pub mod Limits
 pub mod Flags
 pub mod Refusals

@@ -1,4 +1,4 @@
--- The limits of document 01, each once: "Quantities", the ranges of "Journal records", "Division by shares".
+-- The limits of document 01, each once: "Quantities", the ranges of "Journal records", "Division by shares"; and those of document 02.
 use Rattle.std.specs.Prelude.{ℕ}
 
 -- "Units are 1 to 48, producers 1 to 16, consumers 1 to 64."
@@ -30,6 +30,14 @@ greatest_reading = 750000
 -- "Availability is counted in minutes, each figure 0 to 1,052,640 (731 days)."
 abbrev pub greatest_minutes : ℕ
 greatest_minutes = 1052640
+
+-- "Minutes run from 0 to 4,000,000,000": the greatest minute at which a window or an entry of an outage log starts or ends
+abbrev pub last_minute : ℕ
+last_minute = 4000000000
+
+-- "Its entries, at most 1,000"
+abbrev pub most_entries : ℕ
+most_entries = 1000
 
 -- NHRM and NHMD, and NDHMD, at most
 abbrev pub greatest_hours : ℕ

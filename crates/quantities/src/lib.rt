@@ -1,4 +1,5 @@
-// The limits of document 01, each once: "Quantities", the ranges of "Journal records", "Division by shares"; the flags of a unit, and the numbered replies.
+// The limits of the papers, each once: "Quantities", the ranges of "Journal records", "Division by shares", an outage log; the flags of a unit, and
+// the numbered replies.
 #![tactic(auto)]
 
 mod flags; // flags.rt: the flags of a unit
@@ -30,6 +31,12 @@ pub const GREATEST_READING: u64 = 750_000;
 
 // The greatest figure of availability, minutes.
 pub const GREATEST_MINUTES: u32 = 1_052_640;
+
+// The greatest minute at which a window or an entry of an outage log starts or ends.
+pub const LAST_MINUTE: u32 = 4_000_000_000;
+
+// The most entries of an outage log.
+pub const MOST_ENTRIES: usize = 1_000;
 
 // The greatest hours of a stage, and of a day.
 pub const GREATEST_HOURS: u32 = 744;

@@ -28,6 +28,8 @@ pub enum Refusal {
     ShortBuffer,
     // A declared consumer with neither a reading nor a mean.
     NoRealDemand,
+    // Of an outage log: a window or an entry whose end is not after its start, a window too long, or an entry out of order.
+    OutOfOrder,
 }
 
 impl From<Refusal> for u32 {
@@ -49,6 +51,7 @@ impl From<Refusal> for u32 {
             Refusal::AboveGreatestPower => 14,
             Refusal::ShortBuffer => 15,
             Refusal::NoRealDemand => 16,
+            Refusal::OutOfOrder => 17,
         }
     }
 }

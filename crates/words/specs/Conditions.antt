@@ -23,6 +23,7 @@ conditions =
     ∷ codes "a DFA above 3,000,000"
     ∷ codes "output buffer shorter than the record, or than a division's amounts"
     ∷ codes "close while a declared consumer has neither a reading nor a mean"
+    ∷ codes "a window or an entry whose end is not after its start, a window too long, or an entry out of order"
     ∷ []
 
 -- when a number is met; nothing where the table has no such number

@@ -22,6 +22,7 @@ meanings =
     ∷ codes "adjusted demand above 3,000,000 kW"
     ∷ codes "buffer too short"
     ∷ codes "consumer without a reading or a mean"
+    ∷ codes "outage log out of order"
     ∷ []
 
 -- what a number means; nothing where there is no such number

@@ -7,7 +7,7 @@ ghost use Rattle.words.specs.Conditions.{condition, condition_line};
 use text::{LONGEST_DECIMAL, Text, decimal};
 
 // The most bytes of a number's meaning or condition.
-const LONGEST_WORDS: usize = 67;
+const LONGEST_WORDS: usize = 98;
 
 // The most bytes of a number in words, and of what is said of a place.
 pub const LONGEST_SAID: usize = LONGEST_DECIMAL + LONGEST_WORDS + 2;
@@ -97,6 +97,10 @@ fn words_of(number: u32) -> Words
         16 => Words {
             meaning: "consumer without a reading or a mean",
             condition: "close while a declared consumer has neither a reading nor a mean",
+        },
+        17 => Words {
+            meaning: "outage log out of order",
+            condition: "a window or an entry whose end is not after its start, a window too long, or an entry out of order",
         },
         _ => Words {
             meaning: "",

@@ -4,7 +4,7 @@
 pub struct Draw(u64);
 
 impl Draw {
-    /// The sequence of a seed and a journal's number.
+    /// The sequence of a seed and the number of a journal or a log.
     pub fn new(seed: u64, number: u64) -> Draw {
         let mut draw = Draw(seed);
         let start = draw.next();

@@ -1,10 +1,11 @@
-//! Seeded random journals.
+//! Seeded random journals and outage logs.
 
 mod calls;
 mod demand;
 mod draft;
 mod draw;
 mod faults;
+pub mod logs;
 mod season;
 
 use std::fs;

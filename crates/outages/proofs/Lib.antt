@@ -1,0 +1,4 @@
+-- Laws of an outage log.
+pub mod Reading
+pub mod Counting
+pub mod Accepted
