@@ -51,10 +51,11 @@ static double median(double *times)
 
 /*
  * Times rounds of both in turn, of so many calls each, and prints the median
- * time of one call by each and their ratio.
+ * time of one call by each and their ratio, behind what the caller has printed
+ * of the call.
  */
-static void compare_rounds(const char *what, int inputs, int count,
-                           const char *name, calls *ours, calls *plain)
+static void compare_rounds(int inputs, int count, const char *name,
+                           calls *ours, calls *plain)
 {
     static double our_times[ROUNDS], plain_times[ROUNDS];
 
@@ -70,7 +71,7 @@ static void compare_rounds(const char *what, int inputs, int count,
     }
 
     double a = median(our_times), b = median(plain_times);
-    printf("%s: median of %d rounds of %d, %d inputs\n", what, ROUNDS, count, inputs);
+    printf("median of %d rounds of %d, %d inputs\n", ROUNDS, count, inputs);
     printf("%-8s   %8.1f ns\n", name, a);
     printf("%-8s   %8.1f ns\n", "plain C", b);
     printf("%s / plain C = %.2f\n", name, a / b);

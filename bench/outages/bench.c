@@ -103,6 +103,7 @@ int main(void)
 {
     make_inputs();
     check_equal();
-    compare_rounds("one log of 1,000 entries", INPUTS, PASSES * INPUTS, "libplant", ours, plain);
+    printf("one log of %d entries: ", COUNT);
+    compare_rounds(INPUTS, PASSES * INPUTS, "libplant", ours, plain);
     return 0;
 }

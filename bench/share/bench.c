@@ -79,6 +79,7 @@ int main(void)
 {
     make_inputs();
     check_equal();
-    compare_rounds("one division of 64 weights", INPUTS, PASSES * INPUTS, "libshare", ours, plain);
+    printf("one division of %d weights: ", COUNT);
+    compare_rounds(INPUTS, PASSES * INPUTS, "libshare", ours, plain);
     return 0;
 }
