@@ -2,16 +2,18 @@
 
 use std::fmt::Write;
 
+use crate::book::{Plant, Stage};
 use crate::call::{Unit, Year, PIC_GIVEN, SUPPLY_REPORT};
 use crate::field::decimal;
 use crate::journal;
-use crate::listing;
+use crate::listing::{self, MOST_BYTES};
 use crate::number::{reply, Number};
 use crate::offer;
 use crate::page;
 use crate::plant::{Component, Minutes, PowerTest};
 use crate::range::{self, UNITS};
 use crate::summary;
+use crate::whole_kilowatts;
 
 /// 01 "The book": the one unit of the plant cases, its cap and its three components.
 #[derive(Default)]
@@ -22,18 +24,38 @@ struct PlantCase {
 
 /// 01 "Maximum power", "Availability", "Firm offer", "Efficient offer": runs lines of plant cases.
 pub fn plant(input: &str) -> Result<String, String> {
-    let mut case = PlantCase::default();
     let mut answers = String::new();
+    run_lines(input, |_, _, answer| {
+        answers.push_str(answer);
+        answers.push('\n');
+    })?;
+    Ok(answers)
+}
+
+/// 02 "A6": the kind, the offer and the offer without A6 of each firm offer that lines of plant cases ask for.
+pub fn plant_offers(input: &str) -> Result<String, String> {
+    let mut offers = String::new();
+    run_lines(input, |case, numbers, answer| {
+        if let Some((unit, hours)) = asked(numbers) {
+            let without = whole_kilowatts::firm_offer(&unit, &case.parts, &hours);
+            offers += &format!("{} {answer} {without}\n", unit.kind);
+        }
+    })?;
+    Ok(offers)
+}
+
+/// Runs lines of plant cases, showing with each answer the unit as it stands behind the line and the line's numbers.
+fn run_lines(input: &str, mut show: impl FnMut(&PlantCase, &[u64], &str)) -> Result<(), String> {
+    let mut case = PlantCase::default();
     for (place, line) in input.lines().enumerate() {
         let numbers: Option<Vec<u64>> = line.split_whitespace().map(decimal).collect();
-        let answer = numbers.and_then(|numbers| case.answer(&numbers));
-        let answer = answer.ok_or_else(|| format!("line {}: no plant case", place + 1))?;
+        let answer = numbers.and_then(|numbers| Some((case.answer(&numbers)?, numbers)));
+        let (answer, numbers) = answer.ok_or_else(|| format!("line {}: no plant case", place + 1))?;
         if let Some(answer) = answer {
-            answers.push_str(&answer);
-            answers.push('\n');
+            show(&case, &numbers, &answer);
         }
     }
-    Ok(answers)
+    Ok(())
 }
 
 impl PlantCase {
@@ -63,21 +85,8 @@ impl PlantCase {
                     Minutes { hd: most_four(hd), hmp: most_four(hmp), hif: most_four(hif), hed: most_four(hed) };
                 self.avail(component, minutes).map(Some)
             }
-            [3, kind, report, ppr, e1, e2, cap, nhrm, nhmd, ndhmd] => {
-                let hours = Year {
-                    nhrm: u16::try_from(nhrm).ok().filter(|&hours| hours > 0)?,
-                    nhmd: u16::try_from(nhmd).ok().filter(|&hours| hours > 0)?,
-                    ndhmd: u8::try_from(ndhmd).ok().filter(|&hours| hours > 0)?,
-                };
-                let unit = Unit {
-                    kind: u8::try_from(kind).ok().filter(|kind| (1..=8).contains(kind))?,
-                    flags: if report == 1 { SUPPLY_REPORT } else { 0 },
-                    ppr: four(ppr)?,
-                    e1: four(e1)?,
-                    e2: four(e2)?,
-                    cap: four(cap)?,
-                    ..Unit::default()
-                };
+            [3, ..] => {
+                let (unit, hours) = asked(numbers)?;
                 Some(Some(offer::firm_offer(&unit, &self.parts, &hours).to_string()))
             }
             [4, ref units @ ..] => efficient(units).map(Some),
@@ -85,7 +94,7 @@ impl PlantCase {
         }
     }
 
-    /// 01 "Maximum power" (2.3.5): 3, then 8; the number, the result and the memory of a void trip.
+    /// 01 "Maximum power" (2.3.5), 02 "A6": 3, then 8; the number, the result in W and the memory of a void trip.
     fn test(&mut self, component: u64, test: &PowerTest) -> Option<String> {
         let part = self.parts.get_mut(component as usize)?;
         let number = match range::test_holds(test) {
@@ -105,6 +114,26 @@ impl PlantCase {
         };
         Some(number.to_string())
     }
+}
+
+/// 01 "Firm offer": the fields of the unit and the hours of the year that a line about a firm offer gives.
+fn asked(numbers: &[u64]) -> Option<(Unit, Year)> {
+    let &[3, kind, report, ppr, e1, e2, cap, nhrm, nhmd, ndhmd] = numbers else { return None };
+    let hours = Year {
+        nhrm: u16::try_from(nhrm).ok().filter(|&hours| hours > 0)?,
+        nhmd: u16::try_from(nhmd).ok().filter(|&hours| hours > 0)?,
+        ndhmd: u8::try_from(ndhmd).ok().filter(|&hours| hours > 0)?,
+    };
+    let unit = Unit {
+        kind: u8::try_from(kind).ok().filter(|kind| (1..=8).contains(kind))?,
+        flags: if report == 1 { SUPPLY_REPORT } else { 0 },
+        ppr: four(ppr)?,
+        e1: four(e1)?,
+        e2: four(e2)?,
+        cap: four(cap)?,
+        ..Unit::default()
+    };
+    Some((unit, hours))
 }
 
 /// 01 "Efficient offer" (2.2.1 c, 2.2.2): the chosen year and each unit's efficient offer.
@@ -151,6 +180,19 @@ pub fn replies(journal: &[u8]) -> Vec<u8> {
     answers
 }
 
+/// 02 "A6": the kind, the offer and the offer without A6 of each unit that the program lists of a journal.
+pub fn offers(journal: &[u8]) -> Vec<u8> {
+    let book = journal::run(journal).book;
+    let mut offers = String::new();
+    if journal.len() <= MOST_BYTES && matches!(book.stage, Stage::Firm | Stage::Closed) {
+        for Plant { unit, parts, offer, .. } in book.plants.iter().flatten() {
+            let without = whole_kilowatts::firm_offer(unit, parts, &book.hours);
+            offers += &format!("{} {offer} {without}\n", unit.kind);
+        }
+    }
+    offers.into_bytes()
+}
+
 /// 02 "A1": the number and the length of a journal's printed close, 0 where it is refused, then its text.
 pub fn page(journal: &[u8]) -> Vec<u8> {
     let answer = match page::page(&journal::run(journal).book) {
@@ -176,8 +218,8 @@ mod tests {
                      3 1 0 0 0 0 0 720 120 4\n1 0 2 4 3 12 1 1 1\n1 0 0 4 3 12 1 1 1\n1 0 0 4 4 12 1 1 1\n\
                      2 0 0 0 0 0\n2 0 1052641 0 0 0\n1 0 300 4 4 16 1 1 1 1\n4 1 5 2 6 4 7\n4\n0 0 5\n\
                      1 2 2 5 0 0\n1 2 2 5 0 0\n";
-        let answers = "0 1 9000 0\n0\n8550\n0\n0 1 9000 1\n8 1 9000 1\n3 1 9000 1\n9\n3\n3 1 9000 1\n2 0 6 7\n1\n\
-                       0 0 0 1\n0 1 0 0\n";
+        let answers = "0 1 9000000 0\n0\n8550\n0\n0 1 9000000 1\n8 1 9000000 1\n3 1 9000000 1\n9\n3\n\
+                       3 1 9000000 1\n2 0 6 7\n1\n0 0 0 1\n0 1 0 0\n";
         assert_eq!(plant(input).unwrap(), answers);
     }
 
@@ -186,6 +228,34 @@ mod tests {
         for line in ["", "5", "0 1", "1 3 0 4 0 0", "1 0 0 4 4 16 1", "2 0 1 1 1", "3 9 0 0 0 0 0 1 1 1", "4 1", "x"] {
             assert_eq!(plant(&format!("0 0 0\n{line}\n")), Err("line 2: no plant case".to_string()), "{line}");
         }
+    }
+
+    #[test]
+    fn a_result_is_answered_in_watts() {
+        let input = "0 0 0\n1 0 0 6 6 24 2 1 1 1 1 1\n2 0 9 0 1 0\n3 1 1 0 0 0 0 720 120 4\n";
+        assert_eq!(plant(input).unwrap(), "0 1 4666 0\n0\n4\n");
+        assert_eq!(plant(&input.replace("0 0 0\n", "0 1 4\n")).unwrap(), "0 1 4000 0\n0\n3\n");
+    }
+
+    #[test]
+    fn offers_stand_beside_those_without_a6() {
+        let input = "0 0 0\n1 0 0 6 6 24 2 1 1 1 1 1\n2 0 9 0 1 0\n3 1 1 0 0 0 0 720 120 4\n\
+                     3 4 0 0 16 0 0 720 120 4\n4 1 5\n3 2 0 5 0 0 0 720 120 4\n3 6 0 0 15 0 0 720 120 4\n";
+        assert_eq!(plant_offers(input).unwrap(), "1 4 3\n4 4 3\n2 0 0\n6 3 3\n");
+        assert_eq!(plant_offers("").unwrap(), "");
+        assert_eq!(plant_offers("0 0 0\n3 1 1\n"), Err("line 2: no plant case".to_string()));
+    }
+
+    #[test]
+    fn offers_of_a_journal_are_those_of_its_listing() {
+        let gathered =
+            "year 720 120 4\nunit 9 1 1 17 0 0 0 0 0\ntest 9 0 0 6 6 2 1 1 1 1 1\navailability 9 0 9 0 1 0\n\
+                        unit 2 1 3 1 0 0 720 0 0\ndeclare 1 1 1\n";
+        let offers = |more: &str| offers(&crate::text::records(format!("{gathered}{more}")).unwrap());
+        assert_eq!(offers(""), b"");
+        assert_eq!(offers("fix 5\n"), b"3 0 0\n1 4 3\n");
+        assert_eq!(offers("fix 5\nmeter 1 5\nclose 1\n"), b"3 0 0\n1 4 3\n");
+        assert_eq!(offers(&format!("fix 5\n{}", "close 1\n".repeat(20_000))), b"");
     }
 
     #[test]

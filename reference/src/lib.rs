@@ -22,6 +22,7 @@ pub mod record;
 pub mod share;
 pub mod summary;
 pub mod text;
+pub mod whole_kilowatts;
 
 #[cfg(test)]
 mod examples;

@@ -12,8 +12,9 @@ use reference::listing::{self, MOST_BYTES};
 use reference::{card, cases, desk, items, lines, random, text};
 
 /// The subcommands.
-const USAGE: &str = "usage: reference yearbook | desk [FILE..] | page [FILE..] | figures [FILE..] | plant | counts | \
-                     record | outages | replies | text | lines | random SEED COUNT DIR | logs SEED COUNT";
+const USAGE: &str = "usage: reference yearbook | desk [FILE..] | page [FILE..] | figures [FILE..] | offers [FILE..] | \
+                     plant | plant-offers | counts | record | outages | replies | text | lines | \
+                     random SEED COUNT DIR | plants SEED COUNT DIR | logs SEED COUNT";
 
 /// 01 "Journal in, listing out": the bytes from which the program sees that its input is too long.
 const ENOUGH: u64 = MOST_BYTES as u64 + 1;
@@ -52,7 +53,9 @@ fn answer(words: &[&str]) -> Result<Answer, String> {
         ["desk", files @ ..] => each(files, ENOUGH, desk::parts)?,
         ["page", files @ ..] => each(files, u64::MAX, cases::page)?,
         ["figures", files @ ..] => each(files, u64::MAX, cases::figures)?,
+        ["offers", files @ ..] => each(files, ENOUGH, cases::offers)?,
         ["plant"] => cases::plant(&input_text()?)?.into_bytes(),
+        ["plant-offers"] => cases::plant_offers(&input_text()?)?.into_bytes(),
         ["counts"] => card::counts().into_bytes(),
         ["record"] => items::records(&input(u64::MAX)?)?.into_bytes(),
         ["outages"] => items::outages(&input(u64::MAX)?)?.into_bytes(),
@@ -63,16 +66,24 @@ fn answer(words: &[&str]) -> Result<Answer, String> {
             let message = stopped.map(|stopped| format!("journal: {stopped}"));
             return Ok(Answer { output: text.into_bytes(), message });
         }
-        ["random", seed, count, folder] => {
-            let seed = decimal(seed).ok_or(USAGE)?;
-            let count = decimal(count).ok_or(USAGE)?;
-            random::write_journals(seed, count, Path::new(folder)).map_err(|error| error.to_string())?;
-            Vec::new()
-        }
+        ["random", seed, count, folder] => written(random::write_journals, seed, count, folder)?,
+        ["plants", seed, count, folder] => written(random::plants::write_plants, seed, count, folder)?,
         ["logs", seed, count] => random::logs::items(decimal(seed).ok_or(USAGE)?, decimal(count).ok_or(USAGE)?),
         _ => return Err(USAGE.to_string()),
     };
     Ok(Answer { output, message: None })
+}
+
+/// Random files in a folder, which are the answer: nothing is printed.
+fn written(
+    write: fn(u64, u64, &Path) -> io::Result<()>,
+    seed: &str,
+    count: &str,
+    folder: &str,
+) -> Result<Vec<u8>, String> {
+    let (seed, count) = (decimal(seed).ok_or(USAGE)?, decimal(count).ok_or(USAGE)?);
+    write(seed, count, Path::new(folder)).map_err(|error| error.to_string())?;
+    Ok(Vec::new())
 }
 
 /// What is printed of standard input or, one behind the other, of the files that are named.

@@ -30,6 +30,9 @@ pub struct Minutes {
 /// 01 "Quantities": the minutes of 731 days.
 pub const MOST_MINUTES: u32 = 1_052_640;
 
+/// 02 "A6": the watts of a kilowatt.
+pub const WATTS: u64 = 1_000;
+
 impl Minutes {
     /// Annex 2.1: the numerator HD + HMP - HED of the coefficient.
     fn served(&self) -> u64 {
@@ -55,7 +58,7 @@ pub fn reached(count: u64, tc: u64) -> bool {
 /// 01 "The book": what is kept of one component.
 #[derive(Clone, Copy, Debug, Default, PartialEq, Eq)]
 pub struct Component {
-    /// 2.3.5: the last result in kW.
+    /// 2.3.5, 02 "A6": the last result in W.
     pub power: Option<u32>,
     /// 2.3.5 c: the last ending-2 test was void and no result came since.
     pub void_trip: bool,
@@ -64,7 +67,7 @@ pub struct Component {
 }
 
 impl Component {
-    /// 01 "Maximum power" (2.3.5): one test whose fields are in range; meets 8.
+    /// 01 "Maximum power" (2.3.5), 02 "A6": one test whose fields are in range, its result rounded down to W; meets 8.
     pub fn test(&mut self, test: &PowerTest, injection: Option<u32>) -> Result<(), Number> {
         let (tc, count) = (u64::from(test.tc), u64::from(test.count));
         let fits = if test.ending == 0 { count == tc } else { count < tc };
@@ -80,8 +83,9 @@ impl Component {
         };
         match divisor {
             Some(quarters) => {
-                let power = (4 * energy / quarters) as u32;
-                self.power = Some(injection.map_or(power, |pic| power.min(pic)));
+                let power = 4 * WATTS * energy / quarters;
+                let power = injection.map_or(power, |pic| power.min(WATTS * u64::from(pic)));
+                self.power = Some(power as u32);
                 self.void_trip = false;
             }
             None if test.ending == 2 => self.void_trip = true,
@@ -124,20 +128,20 @@ mod tests {
 
     #[test]
     fn a_complete_test_is_divided_by_tc() {
-        assert_eq!(first(0, 4, &[2500; 4]).power, Some(10_000));
-        assert_eq!(first(0, 7, &[1, 1, 1, 1, 1, 1, 2]).power, Some(4));
-        assert_eq!(first(0, 96, &[750_000; 96]).power, Some(3_000_000));
+        assert_eq!(first(0, 4, &[2500; 4]).power, Some(10_000_000));
+        assert_eq!(first(0, 7, &[1, 1, 1, 1, 1, 1, 2]).power, Some(4_571));
+        assert_eq!(first(0, 96, &[750_000; 96]).power, Some(3_000_000_000));
     }
 
     #[test]
     fn exactly_80_percent_counts_as_reached() {
-        assert_eq!(first(1, 5, &[100; 4]).power, Some(100 * 4 * 4 / 4));
-        assert_eq!(first(2, 5, &[100; 4]).power, Some(100 * 4 * 4 / 5));
+        assert_eq!(first(1, 5, &[100; 4]).power, Some(1000 * 100 * 4 * 4 / 4));
+        assert_eq!(first(2, 5, &[100; 4]).power, Some(1000 * 100 * 4 * 4 / 5));
         assert_eq!(first(1, 5, &[100; 3]), Component::default());
         assert_eq!(first(2, 5, &[100; 3]), Component { void_trip: true, ..Component::default() });
-        assert_eq!(first(1, 95, &[8; 76]).power, Some(32));
+        assert_eq!(first(1, 95, &[8; 76]).power, Some(32_000));
         assert_eq!(first(1, 95, &[8; 75]).power, None);
-        assert_eq!(first(1, 96, &[8; 77]).power, Some(32));
+        assert_eq!(first(1, 96, &[8; 77]).power, Some(32_000));
         assert_eq!(first(1, 96, &[8; 76]).power, None);
     }
 
@@ -158,9 +162,9 @@ mod tests {
         assert_eq!(test(&mut part, 0, 10, &[60; 7], None), 8);
         assert_eq!((part.power, part.void_trip), (None, true));
         assert_eq!(test(&mut part, 2, 20, &[60; 5], None), 0);
-        assert_eq!((part.power, part.void_trip), (Some(4 * 300 / 20), false));
+        assert_eq!((part.power, part.void_trip), (Some(4000 * 300 / 20), false));
         assert_eq!(test(&mut part, 2, 20, &[90; 5], None), 0);
-        assert_eq!((part.power, part.void_trip), (Some(60), true));
+        assert_eq!((part.power, part.void_trip), (Some(60_000), true));
     }
 
     #[test]
@@ -186,12 +190,49 @@ mod tests {
     fn pic_caps_every_result_and_0_is_a_cap() {
         let mut part = Component::default();
         assert_eq!(test(&mut part, 0, 4, &[2500; 4], Some(9_999)), 0);
-        assert_eq!(part.power, Some(9_999));
+        assert_eq!(part.power, Some(9_999_000));
         assert_eq!(test(&mut part, 0, 4, &[2500; 4], Some(0)), 0);
         assert_eq!(part.power, Some(0));
         let mut trips = first(2, 5, &[2500; 3]);
         assert_eq!(test(&mut trips, 2, 5, &[2500; 3], Some(5_999)), 0);
-        assert_eq!(trips.power, Some(5_999));
+        assert_eq!(trips.power, Some(5_999_000));
+    }
+
+    #[test]
+    fn a_result_is_rounded_down_to_watts_by_each_ending() {
+        // 44,000 over the count 8 and over TC 9, and 300,000 over TC 7.
+        let readings = [2, 2, 2, 1, 1, 1, 1, 1];
+        assert_eq!(first(1, 9, &readings).power, Some(5_500));
+        assert_eq!(first(2, 9, &readings).power, Some(4_888));
+        assert_eq!(first(0, 9, &[2, 2, 1, 1, 1, 1, 1, 1, 1]).power, Some(4_888));
+        let mut trips = first(2, 7, &[5; 5]);
+        assert_eq!(test(&mut trips, 2, 7, &[15; 5], None), 0);
+        assert_eq!(trips.power, Some(42_857));
+        assert_eq!(first(0, 96, &[&[0; 95][..], &[1]].concat()).power, Some(41));
+        assert_eq!(first(0, 96, &[&[750_000; 95][..], &[749_999]].concat()).power, Some(2_999_999_958));
+    }
+
+    #[test]
+    fn pic_is_scaled_and_takes_a_fraction_only_where_it_caps() {
+        let capped = |pic: u32, ending: u8, tc: u8, readings: &[u32]| {
+            let mut part = Component::default();
+            assert_eq!(test(&mut part, ending, tc, readings, Some(pic)), 0);
+            part.power
+        };
+        for (ending, watts) in [(1, 5_500), (2, 4_888)] {
+            let readings = [2, 2, 2, 1, 1, 1, 1, 1];
+            let kilowatts = watts / 1_000;
+            assert_eq!(capped(kilowatts - 1, ending, 9, &readings), Some(1_000 * (kilowatts - 1)));
+            assert_eq!(capped(kilowatts, ending, 9, &readings), Some(1_000 * kilowatts));
+            for pic in [kilowatts + 1, watts - 1, watts, 3_000_000] {
+                assert_eq!(capped(pic, ending, 9, &readings), Some(watts));
+            }
+        }
+        let greatest = [&[750_000; 95][..], &[749_999]].concat();
+        assert_eq!(capped(2_999_999, 0, 96, &greatest), Some(2_999_999_000));
+        assert_eq!(capped(3_000_000, 0, 96, &greatest), Some(2_999_999_958));
+        assert_eq!(capped(3_000_000, 0, 96, &[750_000; 96]), Some(3_000_000_000));
+        assert_eq!(capped(5, 0, 4, &[5, 0, 0, 0]), Some(5_000));
     }
 
     #[test]
@@ -224,8 +265,11 @@ mod tests {
             assert_eq!(part.availability, Some(good));
         }
         assert_eq!(minutes(900, 60, 40, 10).derate(10_000), 9_500);
+        assert_eq!(minutes(900, 60, 40, 10).derate(10_000_501), 9_500_475);
         assert_eq!(minutes(2, 0, 1, 0).derate(100), 66);
-        assert_eq!(minutes(0, 0, 1, 0).derate(3_000_000), 0);
-        assert_eq!(minutes(1_052_640, 0, 0, 0).derate(3_000_000), 3_000_000);
+        assert_eq!(minutes(0, 0, 1, 0).derate(3_000_000_000), 0);
+        assert_eq!(minutes(1_052_640, 0, 0, 0).derate(3_000_000_000), 3_000_000_000);
+        // One product and one division: 3,000,000,000 - 3,000,000,000 / 1,052,640, which is 2,849.9.
+        assert_eq!(minutes(1_052_639, 0, 1, 0).derate(3_000_000_000), 2_999_997_150);
     }
 }

@@ -1,7 +1,7 @@
-//! The program's answers: standard output, standard error and the status of `text`, `lines`, `page`, `figures`, `outages` and
-//! `logs`.
+//! The program's answers: standard output, standard error and the status of `text`, `lines`, `page`, `figures`, `offers`,
+//! `plant-offers`, `plants`, `outages` and `logs`.
 
-use std::fs::File;
+use std::fs::{self, File};
 use std::io::Write;
 use std::process::{Command, Output, Stdio};
 
@@ -69,6 +69,50 @@ fn figures_are_a_line_for_each_file() {
 }
 
 #[test]
+fn offers_are_a_line_for_each_unit_of_a_firm_book() {
+    let text = "year 720 120 4\nunit 1 1 1 17 0 0 0 0 0\ntest 1 0 0 6 6 2 1 1 1 1 1\navailability 1 0 9 0 1 0\n\
+                declare 1 1 1\nfix 1\n";
+    let journal = answer(&["text"], text.as_bytes(), Stdio::piped()).stdout;
+    answers(&["offers"], &journal, b"1 4 3\n", "", 0);
+    answers(&["offers"], YEAR, b"", "", 0);
+    answers(&["offers", "cases/j.txt", "/dev/null"], b"", b"", "", 0);
+    let missing = "cases/none: No such file or directory (os error 2)\n";
+    answers(&["offers", "cases/none"], b"", b"", missing, 1);
+}
+
+#[test]
+fn offers_of_plant_cases_are_a_line_for_each_that_is_asked_for() {
+    let lines = b"0 0 0\n1 0 0 6 6 24 2 1 1 1 1 1\n2 0 9 0 1 0\n3 1 1 0 0 0 0 720 120 4\n";
+    answers(&["plant"], lines, b"0 1 4666 0\n0\n4\n", "", 0);
+    answers(&["plant-offers"], lines, b"1 4 3\n", "", 0);
+    answers(&["plant-offers"], b"0 0 0\n3 1\n", b"", "line 2: no plant case\n", 1);
+}
+
+#[test]
+fn random_plants_are_files_each_of_which_has_answers() {
+    let folder = concat!(env!("CARGO_TARGET_TMPDIR"), "/plants");
+    drop(fs::remove_dir_all(folder));
+    answers(&["plants", "1", "400", folder], b"", b"", "", 0);
+    let mut kinds = [0; 9];
+    for file in fs::read_dir(folder).expect("the folder is there") {
+        let lines = fs::read(file.expect("a file is there").path()).expect("the file is read");
+        assert!(lines.starts_with(b"0 ") && lines.len() <= 65_536);
+        let offers = answer(&["plant-offers"], &lines, Stdio::piped());
+        assert_eq!((offers.status.code(), offers.stderr), (Some(0), Vec::new()));
+        offers.stdout.split(|&byte| byte == b'\n').filter(|line| !line.is_empty()).for_each(|line| {
+            kinds[usize::from(line[0] - b'0')] += 1;
+        });
+    }
+    assert!(kinds[1..].iter().all(|&offers| offers >= 50), "{kinds:?}");
+    answers(&["plants", "1", "x", folder], b"", b"", &usage(), 1);
+}
+
+/// What is said of words that are no subcommand.
+fn usage() -> String {
+    String::from_utf8(answer(&[], b"", Stdio::piped()).stderr).expect("the usage is text")
+}
+
+#[test]
 fn figures_of_a_log_are_a_line_for_each_item() {
     let log = b"\x15\0\x64\0\0\0\x6E\0\0\0\x05\0\0\0\x62\0\0\0\x67\0\0\0\x02";
     answers(&["outages"], log, b"0 7 0 3 5\n", "", 0);
@@ -105,11 +149,14 @@ fn output_that_cannot_be_written_is_said() {
 
 #[test]
 fn other_words_give_the_usage() {
-    let other: [&[&str]; 8] = [
+    let other: [&[&str]; 11] = [
         &["text", "k.txt"],
         &["lines", "j.journal"],
         &["counts", "96"],
         &["outages", "logs"],
+        &["plant", "lines.txt"],
+        &["plant-offers", "lines.txt"],
+        &["plants", "1", "1"],
         &["logs", "1"],
         &["logs", "1", "x"],
         &["records"],

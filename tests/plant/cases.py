@@ -1,47 +1,20 @@
 #!/usr/bin/env python3
 """Writes the worked examples of Level Plant, crates/plant_cases/stdin, to standard output.
 
-A line is one call, in decimal numbers: 0 unit, 1 test, 2 availability, 3 firm offer, 4 efficient offers."""
+A line is one call, in decimal numbers: 0 unit, 1 test, 2 availability, 3 firm offer, 4 efficient offers. A result is answered in W, an offer in kW;
+those whose W are no whole kW are in watts.py."""
+import sys
 
-FREE = None
-FULL = (900, 60, 40, 10)  # 950 of 1000 minutes
-
-
-def line(*numbers):
-    print(*numbers)
-
-
-def unit(pic=FREE):
-    line(0, 0, 0) if pic is FREE else line(0, 1, pic)
-
-
-def test(component, ending, tc, readings, count=None):
-    count = len(readings) if count is None else count
-    line(1, component, ending, tc, count, 4 * len(readings), *readings)
-
-
-def complete(component, power):
-    """A complete test of four quarters with that result."""
-    test(component, 0, 4, [power // 4] * 4 if power % 4 == 0 else [power, 0, 0, 0])
-
-
-def availability(component, hd, hmp, hif, hed):
-    line(2, component, hd, hmp, hif, hed)
-
-
-def offer(kind, report=0, ppr=0, e1=0, e2=0, cap=0, hours=(720, 120, 4)):
-    line(3, kind, report, ppr, e1, e2, cap, *hours)
-
-
-def efficient(*units):
-    line(4, *(number for unit in units for number in unit))
+sys.dont_write_bytecode = True
+from lines import FULL, availability, complete, efficient, offer, test, unit
+from watts import watts
 
 
 def tests():
     unit()
-    test(0, 0, 4, [2500] * 4)  # complete: 4S / TC
-    test(0, 0, 4, [0, 0, 0, 3])  # rounded down
-    test(0, 0, 96, [750000] * 96)  # 3,000,000 kW
+    test(0, 0, 4, [2500] * 4)  # complete: 4,000·S / TC
+    test(0, 0, 4, [0, 0, 0, 3])  # 3,000 W
+    test(0, 0, 96, [750000] * 96)  # 3,000,000,000 W
     test(0, 0, 96, [750000] * 95 + [749999])
     test(0, 0, 4, [0] * 4)  # a result of 0 is a result
     for ending in (1, 2):  # first tests: counts 3 and 4 of TC 5
@@ -60,7 +33,7 @@ def tests():
 def second_trips():
     unit()
     test(0, 2, 10, [900] * 5)  # void
-    test(0, 2, 10, [1000] * 5)  # second trip: 4S / TC
+    test(0, 2, 10, [1000] * 5)  # second trip: 4,000·S / TC
     test(0, 2, 10, [1100] * 5)  # void again, the result stays
     test(0, 2, 12, [1100] * 5)
     unit()
@@ -306,3 +279,4 @@ offers()
 missing_in_one()
 offers_with_storage()
 years()
+watts()

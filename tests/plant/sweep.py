@@ -12,8 +12,9 @@ COUNTS = range(98)
 
 
 def lent(count):
-    """The count, the length and so many readings, by turns one above and one below a whole number m. 4S is 4m times the count, or 4 more, so
-    that 4S / count is at least 4m, and 4S / TC less where the count is below TC."""
+    """The count, the length and so many readings, by turns one above and one below a whole number m. 4,000S is 4,000m times the count, or 4,000
+    more, so that 4,000S / count is at least 4,000m, and 4,000S / TC less where the count is below TC. Over an odd count from 3 on it is no whole
+    kW."""
     m = 2 + count % 7
     readings = [m - 1 if place % 2 else m + 1 for place in range(count)]
     return " ".join(map(str, (count, 4 * count, *readings)))

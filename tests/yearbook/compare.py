@@ -6,7 +6,9 @@ A journal is given as FILE and on standard input in turn, from word to word; a s
 named with the first line that differs and copied to DIFFERENT. Prints how often each number was met in the random journals, how many of them
 have a page, have two, and have none, refused with 4, and how many have their first refusal where, together with how the reading ended. A journal
 whose first record is refused has its first refusal at place 0, even where it is the only record read; one that is too long has none of these pairs.
-Fails if a journal differs, a number from 1 to 14 or number 16 was never met, or one of the three or of the twelve pairs never occurred."""
+Tells too how many units of each kind the random journals list, and how many of them have another offer than in whole kW at each step.
+Fails if a journal differs, a number from 1 to 14 or number 16 was never met, one of the three or of the twelve pairs never occurred, or no unit of a
+kind has another offer."""
 import collections
 import concurrent.futures
 import io
@@ -24,6 +26,8 @@ PAGES = "a page", "two pages", "a page refused with 4"
 FIRST_REFUSALS = "no refusal", "first refusal at place 0", "first refusal in the middle", "first refusal as the last record read"
 ENDS = "end of journal", "stop 1", "stop 2"
 PAIRS = [f"{first}, {end}" for first in FIRST_REFUSALS for end in ENDS]
+OFFERS = [f"an offer of kind {kind}" for kind in range(1, 9)]
+CHANGED = [f"{offer} that A6 changed" for offer in OFFERS]
 
 
 def expected(reference, journals):
@@ -91,8 +95,17 @@ def pair(replies):
     return [f"{FIRST_REFUSALS[first]}, {ENDS[int(stop[1]) if stop else 0]}"]
 
 
+def offers(reference, journals):
+    """of each unit that the journals list which of OFFERS it has, and which of CHANGED, if any"""
+    run = subprocess.run([reference, "offers", *journals], stdout=subprocess.PIPE, check=True, text=True)
+    for kind, offer, without in map(str.split, run.stdout.splitlines()):
+        yield OFFERS[int(kind) - 1]
+        if offer != without:
+            yield CHANGED[int(kind) - 1]
+
+
 def compare(program, reference, journals, both_ways):
-    """what differs, by journal, and how often each number was met and each of PAGES and PAIRS occurred"""
+    """what differs, by journal, and how often each number was met and each of PAGES, PAIRS, OFFERS and CHANGED occurred"""
     different, met = {}, collections.Counter()
     for place, (journal, parts) in enumerate(zip(journals, expected(reference, journals))):
         ways = (True, False) if both_ways else (place % 2 == 0,)
@@ -101,6 +114,7 @@ def compare(program, reference, journals, both_ways):
             different[journal] = found
         met.update(map(int, re.findall(rb": (\d+) ", parts[1])))
         met.update(pages(*parts[3:5]) + pair(parts[1]))
+    met.update(offers(reference, journals))
     return different, met
 
 
@@ -131,14 +145,16 @@ def main():
     print(", ".join(f"{name}: {met[name]} journals" for name in PAGES))
     for first in FIRST_REFUSALS:
         print(f"{first}:", ", ".join(f"{met[f'{first}, {end}']} with {end}" for end in ENDS))
-    missing = [item for item in (*NUMBERS, *PAGES, *PAIRS) if not met[item]]
+    missing = [item for item in (*NUMBERS, *PAGES, *PAIRS, *CHANGED) if not met[item]]
     if missing:
         print("test-yearbook: FAILED, never met:", "; ".join(map(str, missing)))
     if wrong:
         print(f"test-yearbook: FAILED, {wrong} journals differ, kept in {kept}")
     if missing or wrong:
         sys.exit(1)
-    print(f"test-yearbook: passed, {count[True]} stored journals and {count[False]} random ones, listing, replies, page, run and standard error of each")
+    kinds = ", ".join(f"{met[changed]} of {met[offer]} of kind {kind}" for kind, (offer, changed) in enumerate(zip(OFFERS, CHANGED), 1))
+    compared = f"{count[True]} stored journals and {count[False]} random ones, listing, replies, page, run and standard error of each"
+    print(f"test-yearbook: passed, {compared}; offers of the random ones that A6 changed: {kinds}")
 
 
 if __name__ == "__main__":

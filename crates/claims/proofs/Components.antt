@@ -13,8 +13,10 @@ use Rattle.basis.specs.Choice.{pick}
 use Rattle.basis.proofs.Choice.{peel_not}
 use Rattle.power.specs.Power.{fresh, maximum_power, test_number, test_of, energy_of, measured_of, after_test}
 use Rattle.plant.specs.Availability.{availability_number, availability_of}
-use Rattle.quantities.specs.Limits.{greatest_power, greatest_component, units}
+use Rattle.power.specs.Quantity.{in_watts, greatest_watts}
+use Rattle.quantities.specs.Limits.{greatest_component, units}
 use Rattle.power.specs.declared.quantity.Kw.{Kw}
+use Rattle.power.specs.declared.quantity.Watts.{Watts}
 use Rattle.power.specs.declared.component.Component.{Component}
 use Rattle.power.specs.declared.component.Minutes.{Minutes}
 use Rattle.power.specs.declared.component.Trial.{Trial}
@@ -77,7 +79,7 @@ component_in_lem h w (suc (suc zero)) p = refl
 component_in_lem h w (suc (suc (suc j))) p = absurd (omega arith)
 
 -- a call on one component of one unit: the units and what is known of their powers
-module _ (h : List Event) (b : Book) (k : Kept h b) (e : Event) (u component : ℕ) (x : Component) (numbered : Numbered units u) (few : component ≤ greatest_component) (not-unit : is_a name.Unit e ≡ false) (of_unit : field 0 e ≡ u) (this : (j : ℕ) → component_in (e ∷ h) u j ≡ pick (eqb component j) x (component_in h u j)) (cap-kept : Within (cap_of (entry_in h u)) x) (small-kept : (maximum_power x).0 ≤ greatest_power) (there : last_that (about name.Unit u) h ≡ None → ⊥) where
+module _ (h : List Event) (b : Book) (k : Kept h b) (e : Event) (u component : ℕ) (x : Component) (numbered : Numbered units u) (few : component ≤ greatest_component) (not-unit : is_a name.Unit e ≡ false) (of_unit : field 0 e ≡ u) (this : (j : ℕ) → component_in (e ∷ h) u j ≡ pick (eqb component j) x (component_in h u j)) (cap-kept : Within (cap_of (entry_in h u)) x) (small-kept : (maximum_power x).0 ≤ greatest_watts) (there : last_that (about name.Unit u) h ≡ None → ⊥) where
   others : (w j : ℕ) → (w ≡ u → ⊥) → component_in (e ∷ h) w j ≡ component_in h w j
   others w j o = component_another e h w j (ne_eqb (field 0 e) w (λ q. o (sym q ∙ of_unit)))
 
@@ -98,10 +100,10 @@ module _ (h : List Event) (b : Book) (k : Kept h b) (e : Event) (u component : �
   within_kept w j false q =
       rw (entry_as_before e h not-unit w, others w j (eqb-false w u q)) (k.plants.power_capped w j)
 
-  smalls_kept : (w j : ℕ) (t : Bool) → eqb w u ≡ t → (maximum_power (component_in (e ∷ h) w j)).0 ≤ greatest_power
+  smalls_kept : (w j : ℕ) (t : Bool) → eqb w u ≡ t → (maximum_power (component_in (e ∷ h) w j)).0 ≤ greatest_watts
   smalls_kept w j true q =
       rw (eqb-true w u q, this j)
-      (chosen (λ y. (maximum_power y).0 ≤ greatest_power) (eqb component j) (component_in h u j) small-kept (k.plants.power_small u j))
+      (chosen (λ y. (maximum_power y).0 ≤ greatest_watts) (eqb component j) (component_in h u j) small-kept (k.plants.power_small u j))
   smalls_kept w j false q = rw (others w j (eqb-false w u q)) (k.plants.power_small w j)
 
   untested_kept : (w j : ℕ) (t : Bool) → eqb w u ≡ t → last_that (about name.Unit w) (e ∷ h) ≡ None → component_in (e ∷ h) w j ≡ fresh
@@ -180,7 +182,7 @@ module _ (h : List Event) (b : Book) (k : Kept h b) (unit component : ℕ) (numb
     test_plants =
         component_stored h b k test unit component after numbered few refl refl this
         (subst⁻¹ (λ x. Within (cap_of (entry_in h unit)) x) after_is (within (cap_of (entry_in h unit)) (component_in h unit component) (k.plants.power_capped unit component)))
-        (subst⁻¹ (λ x. (maximum_power x).0 ≤ greatest_power) after_is (test_within_greatest (component_in h unit component) (cap_of (entry_in h unit)) trial.ending trial.tc trial.count readings (k.plants.power_small unit component)))
+        (subst⁻¹ (λ x. (maximum_power x).0 ≤ greatest_watts) after_is (test_within_greatest (component_in h unit component) (cap_of (entry_in h unit)) trial.ending trial.tc trial.count readings (k.plants.power_small unit component)))
         there.0
 
   module _ (m : Minutes) (readings : List ℕ) (z : availability_rest (unit_at b.units unit).enrolment component m.hd m.hmp m.hif m.hed ≡ 0) where
@@ -221,12 +223,12 @@ module _ (h : List Event) (b : Book) (k : Kept h b) (unit component : ℕ) (numb
 
     same_within : (cap : Option Kw) (x y : Component) → maximum_power x ≡ maximum_power y → Within cap y → Within cap x
     same_within None x y q w = le_refl (maximum_power x).0
-    same_within (Some most) x y q w = subst⁻¹ (λ (p : Kw). p.0 ≤ most.0) q w
+    same_within (Some most) x y q w = subst⁻¹ (λ (p : Watts). p.0 ≤ (in_watts most).0) q w
 
     pub availability_plants : Plants (availability ∷ h) (set b.units (unit - 1) (available_unit (unit_at b.units unit) component m.hd m.hmp m.hif m.hed))
     unfolding available_unit parts_of
     availability_plants =
         component_stored h b k availability unit component held numbered few refl refl available_this
         (same_within (cap_of (entry_in h unit)) held (component_in h unit component) same_power (k.plants.power_capped unit component))
-        (subst⁻¹ (λ (p : Kw). p.0 ≤ greatest_power) same_power (k.plants.power_small unit component))
+        (subst⁻¹ (λ (p : Watts). p.0 ≤ greatest_watts) same_power (k.plants.power_small unit component))
         available_there.0

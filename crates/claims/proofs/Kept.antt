@@ -9,6 +9,7 @@ use Prim.Native.Nat.{ℕ, ◌+◌, ◌-◌, ◌≤◌}
 use lib.ListN.{length, get_or}
 use Rattle.basis.specs.Sums.{sum, all_at_most}
 use Rattle.share.specs.Division.{division_number}
+use Rattle.power.specs.Quantity.{in_watts, greatest_watts}
 use Rattle.power.specs.Power.{fresh, maximum_power}
 use Rattle.quantities.specs.Limits.{greatest_total, greatest_power, producers, consumers}
 use Rattle.power.specs.declared.component.Component.{Component}
@@ -36,12 +37,12 @@ pub record Timing (h : List Event) (stage : Stage) (hours : Hours) (dmp : ℕ) :
 -- a component's power is within its unit's authorised injection
 abbrev pub Within : Option Kw → Component → Type 0
 Within None x = (maximum_power x).0 ≤ (maximum_power x).0
-Within (Some most) x = (maximum_power x).0 ≤ most.0
+Within (Some most) x = (maximum_power x).0 ≤ (in_watts most).0
 
 pub record Plants (h : List Event) (us : List Unit) : Type 0 where
   pub units_kept : us ≡ units_in h
   pub power_capped : (u k : ℕ) → Within (cap_of (entry_in h u)) (component_in h u k)
-  pub power_small : (u k : ℕ) → (maximum_power (component_in h u k)).0 ≤ greatest_power
+  pub power_small : (u k : ℕ) → (maximum_power (component_in h u k)).0 ≤ greatest_watts
   pub untested : (u k : ℕ) → last_that (about name.Unit u) h ≡ None → component_in h u k ≡ fresh
 
 pub record ConsumersKept (h : List Event) (xs : List Consumer) : Type 0 where

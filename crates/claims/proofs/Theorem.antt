@@ -5,7 +5,6 @@ use mathlib.Core.Bool.{Bool, true, false}
 use mathlib.Core.List.{List, [], map}
 use mathlib.Core.Logic.{⊎_elim}
 use Prim.Native.Nat.{ℕ, suc, ◌+◌, ◌-◌, ◌*◌, ◌≤◌, ◌<◌, zero-le}
-use native.Mathlib.Nat.{le_trans}
 use native.Mathlib.Omega.{arith}
 use borrow.Author.Tests.{ne_eqb}
 use lib.Dec.{eqb}
@@ -15,6 +14,7 @@ use Rattle.basis.proofs.Sums.{sum_zeros}
 use Rattle.share.specs.Division.{division_number, shares}
 use Rattle.share.proofs.Accepted.{accepted}
 use Rattle.share.proofs.Laws.{sum-shares, share_near}
+use Rattle.power.specs.Quantity.{watts_of_kilowatt}
 use Rattle.quantities.specs.Limits.{units, producers, consumers}
 use Rattle.quantities.specs.Flags.{flagged, injection_given}
 use Rattle.table.specs.Records as name
@@ -26,7 +26,7 @@ use Rattle.gathering.specs.Units.{cap_of}
 use Rattle.close.specs.Close.{credits_of, undistributed_of}
 use Rattle.book.specs.Lists.{Event, after_all, accepted_by}
 use Rattle.claims.specs.History.{field, field_in, last_that, about, fixed_in, closed_in, dmp_in, declared_in, entry_by, entry_in, component_in}
-use Rattle.claims.specs.Figures.{efficient_offer_in, producer_offer_in, declarations_in, total_declared_in, demand_in, consumer_in, declaration_by, positive_adjustments_in, all_charges_in, all_credits_in, undistributed_in}
+use Rattle.claims.specs.Figures.{power_in, efficient_offer_in, producer_offer_in, declarations_in, total_declared_in, demand_in, consumer_in, declaration_by, positive_adjustments_in, all_charges_in, all_credits_in, undistributed_in}
 use Rattle.claims.specs.Demand.{demand_of, NoSurplus, Demand3, Claim}
 use Rattle.claims.proofs.Kept.{Within, Kept}
 use Rattle.claims.proofs.Demands.{total_positive, declaration_at, demand_at, demand_in_lem, demands_in}
@@ -81,7 +81,8 @@ module _ (h : List Event) (b : Book) (k : Kept h b) where
   injection : (u : ℕ) (e : Event) → Numbered units u → last_that (about name.Unit u) h ≡ Some e → flagged injection_given (field 3 e) ≡ true → efficient_offer_in h u ≤ field 4 e
   injection u e nu q f =
       let cap : cap_of (entry_in h u) ≡ Some (record { 0 = field 4 e }) = ap (λ l. cap_of (entry_by l)) q ∙ rw f refl in
-      le_trans (within_power h u nu) (subst (λ c. Within c (component_in h u 0)) cap (k.plants.power_capped u 0))
+      let w : power_in h u ≤ watts_of_kilowatt * field 4 e = subst (λ c. Within c (component_in h u 0)) cap (k.plants.power_capped u 0) in
+      omega (arith, within_power h u nu, w)
 
   -- the money, where the charges were divided and where there was nothing to divide by
   module _ (closed : closed_in h ≡ true) where

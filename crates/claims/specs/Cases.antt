@@ -1,9 +1,9 @@
 -- The thirteen cases that the papers fix, over the definitions ("Before a delivery is taken").
-use Rattle.power.specs.declared.quantity.Kw.{Kw}
+use Rattle.power.specs.declared.quantity.Watts.{Watts}
 use Rattle.std.specs.Prelude.{◌≡◌, Bool, true, false, List, [], ◌∷◌, ◌++◌, ℕ, replicate, Option, None, Some}
 use Rattle.basis.specs.Numbers.{bytes_of, all_bytes_of}
 use Rattle.share.specs.Division.{shares}
-use Rattle.power.specs.Quantity.{kw}
+use Rattle.power.specs.Quantity.{watts}
 use Rattle.power.specs.Power.{Answer, fresh, test_of}
 use Rattle.plant.specs.Efficient.{efficient_of}
 use Rattle.journal.specs.Run.{run_of}
@@ -59,8 +59,8 @@ equal_readings count = all_bytes_of 4 (replicate count 1000)
 abbrev pub first_test : ℕ → ℕ → Answer
 first_test ending count = test_of fresh None ending 5 count (equal_readings count)
 
--- an accepted test, with the memory of a void trip and the result that it leaves
-abbrev pub accepted_test : Bool → Option Kw → Answer
+-- an accepted test, with the memory of a void trip and the result that it leaves, in watts
+abbrev pub accepted_test : Bool → Option Watts → Answer
 accepted_test memory result =
     record { number = 0; component = record { result = result; void_trip = memory; availability = None } }
 
@@ -79,10 +79,10 @@ pub record Thirteen : Type 0 where
   pub letter_r : counts_line run_j ≡ 82 ∷ 32 ∷ 49 ∷ 54 ∷ 32 ∷ 49 ∷ 53 ∷ 32 ∷ 49 ∷ 10 ∷ []
   -- trip not the plant's doing, accepted: below 80 % void, at 80 % over the time reached
   pub count_3_ending_1 : first_test 1 3 ≡ accepted_test false None
-  pub count_4_ending_1 : first_test 1 4 ≡ accepted_test false (Some (kw 4000))
+  pub count_4_ending_1 : first_test 1 4 ≡ accepted_test false (Some (watts 4000000))
   -- trip of the plant's doing, accepted: below 80 % void and remembered, at 80 % over TC
   pub count_3_ending_2 : first_test 2 3 ≡ accepted_test true None
-  pub count_4_ending_2 : first_test 2 4 ≡ accepted_test false (Some (kw 3200))
+  pub count_4_ending_2 : first_test 2 4 ≡ accepted_test false (Some (watts 3200000))
   -- "a tie the first"
   pub tie_of_years : efficient_of 2 (1 ∷ 2 ∷ []) (500 ∷ 500 ∷ []) ≡ record { year = 1; offers = 500 ∷ 0 ∷ [] }
   pub three_equal_weights : shares 10000 (1000 ∷ 1000 ∷ 1000 ∷ []) ≡ 3334 ∷ 3333 ∷ 3333 ∷ []

@@ -3,6 +3,7 @@ use Rattle.std.specs.Prelude.{◌≡◌, true, List, [], map, ℕ, ◌+◌, ◌-
 use Rattle.basis.specs.Sums.{sum}
 use Rattle.quantities.specs.Limits.{units, producers, consumers}
 use Rattle.quantities.specs.Flags.{flagged, injection_given}
+use Rattle.power.specs.Quantity.{watts_of_kilowatt}
 use Rattle.table.specs.Records as name
 use Rattle.state.specs.declared.kept.Book.{Book}
 use Rattle.state.specs.State.{fresh_book, consumer_at, firm_demand_by, cell_of, row_of}
@@ -36,8 +37,8 @@ pub record Demand3 (h : List Event) (b : Book) : Type 0 where
   pub balance : (p c : ℕ) → 1 ≤ p → p ≤ producers → 1 ≤ c → c ≤ consumers → (releases_in h p c ≤ commitments_in h p c) × (balance_of b p c ≡ commitments_in h p c - releases_in h p c)
   -- "A producer's balances total at most the efficient offers of its units,"
   pub producer_total : (p : ℕ) → 1 ≤ p → p ≤ producers → sum (row_of b.balances p) ≤ producer_offer_in h p
-  -- "none above that unit's maximum power,"
-  pub offer_within_power : (u : ℕ) → 1 ≤ u → u ≤ units → efficient_offer_in h u ≤ power_in h u
+  -- "none above that unit's maximum power," document 02, A6: "An efficient offer, times 1,000, is still at most the unit's maximum power in watts."
+  pub offer_within_power : (u : ℕ) → 1 ≤ u → u ≤ units → watts_of_kilowatt * efficient_offer_in h u ≤ power_in h u
   -- "nor above its authorised injection where one is given."
   pub offer_within_injection : (u : ℕ) (e : Event) → 1 ≤ u → u ≤ units → last_that (about name.Unit u) h ≡ Some e → flagged injection_given (field 3 e) ≡ true → efficient_offer_in h u ≤ field 4 e
   -- "Once closed, charges equal credits plus the undistributed amount,"

@@ -31,7 +31,7 @@ unit_in h u =
 unfoldable pub units_in : List Event → List Unit
 units_in h = tab (λ i. unit_in h (suc i)) units
 
--- PP, the maximum power of a unit: that of component 0
+-- PP, the maximum power of a unit in watts: that of component 0
 abbrev pub power_in : List Event → ℕ → ℕ
 power_in h u = (maximum_power (component_in h u 0)).0
 

@@ -1,10 +1,10 @@
 -- The coefficient of availability ("Availability", annex 2.1).
 use Rattle.std.specs.Prelude.{Bool, false, ℕ, ◌+◌, ◌-◌, ◌*◌, ◌/◌, leb, eqb, Option, None, Some}
 use Rattle.basis.specs.Choice.{pick}
-use Rattle.power.specs.declared.quantity.Kw.{Kw}
+use Rattle.power.specs.declared.quantity.Watts.{Watts}
 use Rattle.power.specs.declared.component.Minutes.{Minutes}
 use Rattle.power.specs.declared.component.Component.{Component}
-use Rattle.power.specs.Quantity.{kw}
+use Rattle.power.specs.Quantity.{watts}
 use Rattle.power.specs.Power.{Answer, answer_of}
 use Rattle.quantities.specs.Limits.{greatest_minutes}
 use Rattle.power.specs.Ranges.{minutes_in_range}
@@ -41,7 +41,7 @@ abbrev pub held : Option Minutes → Bool
 held None = false
 held (Some m) = eqb (availability_number m) 0
 
--- power times c, one product and one division; 0 without an availability
-unfoldable pub times_c : Kw → Option Minutes → Kw
-times_c power None = kw 0
-times_c power (Some m) = kw (pick (held (Some m)) (power.0 * ready_minutes m / whole_minutes m) 0)
+-- power times c, one product and one division in watts; 0 without an availability
+unfoldable pub times_c : Watts → Option Minutes → Watts
+times_c power None = watts 0
+times_c power (Some m) = watts (pick (held (Some m)) (power.0 * ready_minutes m / whole_minutes m) 0)

@@ -2,12 +2,12 @@
 ghost use Rattle.std.specs.Prelude.{◌≡◌, ◌+◌, ◌*◌, ◌/◌, ◌≤◌, ◌<◌};
 ghost use Rattle.quantities.specs.Limits.{greatest_minutes};
 ghost use Rattle.quantities.specs.Refusals.{met};
-ghost use Rattle.power.specs.Quantity.{kw};
+ghost use Rattle.power.specs.Quantity.{watts};
 ghost use Rattle.power.specs.Power.{answered};
 ghost use Rattle.plant.specs.Availability.{ready_minutes, whole_minutes, minutes_fit, availability_number, availability_of, held, times_c};
 ghost use Rattle.plant.specs.Offer.{available_power};
 
-use power::{Component, Kw, Minutes, maximum_power, minutes_in_range};
+use power::{Component, Minutes, Watts, maximum_power, minutes_in_range};
 use quantities::{GREATEST_MINUTES, Refusal};
 
 // The minutes have a coefficient: not none or too many in all, and no more degraded than there are.
@@ -52,29 +52,29 @@ pub(crate) fn is_held(availability: Option<Minutes>) -> bool
     availability.is_some_and(|m| check_minutes(m).is_ok())
 }
 
-// Power times the coefficient of minutes that fit: one product, one division.
-fn times_minutes(power: Kw, m: Minutes) -> Kw
+// Power times the coefficient of minutes that fit: one product, one division, in watts.
+fn times_minutes(power: Watts, m: Minutes) -> Watts
     requires { (0 < whole_minutes m) × (whole_minutes m ≤ greatest_minutes) × (m.hed ≤ m.hd + m.hmp) }
-    ensures { result ≡ kw (power.0 * ready_minutes m / whole_minutes m) }
+    ensures { result ≡ watts (power.0 * ready_minutes m / whole_minutes m) }
 {
     let ready = u64::from(m.hd + m.hmp - m.hed);
     let whole = u64::from(m.hd + m.hif + m.hmp);
-    Kw((u64::from(power.0) * ready / whole) as u32)
+    Watts((u64::from(power.0) * ready / whole) as u32)
 }
 
 // Power times c, 0 without an availability. A match with a guard: minutes that do not fit have no c either.
 #[tactic(auto, unfolding(crate::specs::Availability::times_c))]
-pub(crate) fn times_c(power: Kw, availability: Option<Minutes>) -> Kw
+pub(crate) fn times_c(power: Watts, availability: Option<Minutes>) -> Watts
     ensures { result ≡ times_c power availability }
 {
     match availability {
         Some(m) if check_minutes(m).is_ok() => times_minutes(power, m),
-        _ => Kw(0),
+        _ => Watts(0),
     }
 }
 
 // The maximum power of a component times its c.
-pub(crate) fn available_power(x: Component) -> Kw
+pub(crate) fn available_power(x: Component) -> Watts
     ensures { result ≡ available_power x }
 {
     times_c(maximum_power(x), x.availability)

@@ -10,8 +10,8 @@ pub use availability::set_availability;
 pub use efficient::{Efficient, efficient_offers};
 pub use offer::{Plant, firm_offer};
 pub use power::{
-    Component, Components, Hours, Kw, Kwh, Minutes, Trial, fresh_component, fresh_components,
-    least_count, maximum_power, test,
+    Component, Components, Hours, Kw, Kwh, Minutes, Trial, Watts, fresh_component,
+    fresh_components, least_count, maximum_power, test,
 };
 pub use promises::{
     efficient_or_none, offer_at_most_maximum, ready_at_most_whole, test_within_cap,

@@ -7,7 +7,7 @@ pub fn test_within_cap()
     ensures { TestWithinCap }
 {}
 
-// A test leaves a maximum power of at most 3,000,000 kW if it found one.
+// A test leaves a maximum power of at most 3,000,000 kW, in watts, if it found one.
 #[tactic(auto, using(crate::proofs::Results::test_within_greatest))]
 pub fn test_within_greatest()
     ensures { TestWithinGreatest }
@@ -18,7 +18,7 @@ pub fn ready_at_most_whole()
     ensures { ReadyAtMostWhole }
 {}
 
-// A firm offer is at most the maximum power of component 0.
+// A firm offer, times 1,000, is at most the maximum power of component 0 in watts.
 #[tactic(auto, using(crate::proofs::Offers::offer_at_most_maximum))]
 pub fn offer_at_most_maximum()
     ensures { OfferAtMostMaximum }

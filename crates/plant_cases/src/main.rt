@@ -1,9 +1,9 @@
 // Runs the worked examples on standard input through Level Plant, and writes one line for each.
 //
 //     0 given pic                                         a new unit, without an answer
-//     1 component ending tc count length readings..       a test: number, has a result, maximum power, memory
+//     1 component ending tc count length readings..       a test: number, has a result, maximum power in watts, memory
 //     2 component hd hmp hif hed                          an availability: number
-//     3 kind report ppr e1 e2 cap nhrm nhmd ndhmd         the firm offer
+//     3 kind report ppr e1 e2 cap nhrm nhmd ndhmd         the firm offer in kW
 //     4 flags offer flags offer ..                        the chosen year, the efficient offers
 #![tactic(auto)]
 
@@ -35,7 +35,7 @@ impl Unit {
     }
 }
 
-// The answer to a test: its number, whether the component has a result, its maximum power and the memory.
+// The answer to a test: its number, whether the component has a result, its maximum power in watts and the memory.
 fn show_tested<W: Write>(
     out: &mut W,
     tested: Result<Component, Refusal>,

@@ -28,12 +28,24 @@ pub record AcceptedTest (ending tc count : ℕ) (bytes : List ℕ) : Type 0 wher
 pub accepted-test : (ending tc count : ℕ) (bytes : List ℕ) → test_number ending tc count bytes ≡ 0 → AcceptedTest ending tc count bytes
 accepted-test ending tc count bytes e = grind (arith, nat_tests)
 
--- .. and so the energy of the chunks that hold its readings is that of the readings, and fits
-pub energy_of_chunks : (ending tc count : ℕ) (bytes : List ℕ) → test_number ending tc count bytes ≡ 0 → (sum_by (from_le_bytes w32) (first_chunks 4 (length bytes / 4) bytes) ≡ sum (readings_of count bytes)) × (sum (readings_of count bytes) < 2 ^ 32)
-energy_of_chunks ending tc count bytes e =
-    let k = accepted-test ending tc count bytes e in
-    (sum_of_readings count bytes k.whole, omega (arith, k.few, energy_at_most greatest_reading count bytes k.small))
-
 -- no more readings than the full time has quarters
 pub count_within_time : (ending tc count : ℕ) → count_fits ending tc count ≡ true → count ≤ tc
 count_within_time ending tc count e = grind (arith, nat_tests)
+
+-- .. and so the energy of the chunks that hold its readings is that of the readings, and as small as these allow
+pub record EnergyOfChunks (tc count : ℕ) (bytes : List ℕ) : Type 0 where
+  pub same : sum_by (from_le_bytes w32) (first_chunks 4 (length bytes / 4) bytes) ≡ sum (readings_of count bytes)
+  pub fits : sum (readings_of count bytes) < 2 ^ 32
+  pub small : sum (readings_of count bytes) ≤ count * greatest_reading
+  pub within : count ≤ tc
+
+pub energy_of_chunks : (ending tc count : ℕ) (bytes : List ℕ) → test_number ending tc count bytes ≡ 0 → EnergyOfChunks tc count bytes
+energy_of_chunks ending tc count bytes e =
+    let k = accepted-test ending tc count bytes e in
+    let small : sum (readings_of count bytes) ≤ count * greatest_reading = energy_at_most greatest_reading count bytes k.small in
+    record {
+      same = sum_of_readings count bytes k.whole;
+      fits = omega (arith, k.few, small);
+      small = small;
+      within = count_within_time ending tc count k.fits;
+    }

@@ -2,7 +2,7 @@
 ghost use Rattle.std.specs.Prelude.{◌≡◌};
 ghost use Rattle.power.specs.Power.{fresh, fresh_components};
 
-use crate::quantity::Kw;
+use crate::quantity::Watts;
 
 // The minutes of an availability: available, planned maintenance, forced outage, equivalent degradation.
 #[derive(Clone, Copy, Debug, PartialEq, Eq)]
@@ -34,7 +34,7 @@ pub struct Hours {
 // A component: its result, if a test gave one, whether its last ending-2 test was void with no result since, its availability, if given.
 #[derive(Clone, Copy, Debug, PartialEq, Eq)]
 pub struct Component {
-    pub result: Option<Kw>,
+    pub result: Option<Watts>,
     pub void_trip: bool,
     pub availability: Option<Minutes>,
 }

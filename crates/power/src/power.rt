@@ -1,22 +1,22 @@
 // Tests, and the maximum power that they give.
-ghost use Rattle.std.specs.Prelude.{◌≡◌, ◌^◌, ◌≤◌, ◌<◌, sum_by};
+ghost use Rattle.std.specs.Prelude.{◌≡◌, ◌^◌, ◌*◌, ◌≤◌, ◌<◌, sum_by};
 ghost use Rattle.std.specs.Int.{from_le_bytes, w32};
-ghost use Rattle.quantities.specs.Limits.{greatest_time, least_time};
+ghost use Rattle.quantities.specs.Limits.{greatest_time, least_time, greatest_reading};
 ghost use Rattle.quantities.specs.Refusals.{met};
 ghost use Rattle.power.specs.Quantity.{kwh};
 ghost use Rattle.power.specs.Power.{maximum_power, count_fits, test_number, measured_of, capped, after_test, answered, test_of};
 
 use crate::card::reached;
 use crate::component::{Component, Trial};
-use crate::quantity::{Kw, Kwh, least, over_quarters};
+use crate::quantity::{Kw, Kwh, Watts, capped_by_kilowatts, over_quarters};
 use crate::ranges::test_in_range;
 use quantities::Refusal;
 
 // The maximum power of a component, 0 without a result.
-pub fn maximum_power(x: Component) -> Kw
+pub fn maximum_power(x: Component) -> Watts
     ensures { result ≡ maximum_power x }
 {
-    x.result.unwrap_or(Kw(0))
+    x.result.unwrap_or(Watts(0))
 }
 
 // The count fits the ending, which is a number as in `Trial`: TC where complete, less where tripped.
@@ -55,8 +55,8 @@ fn energy_of(readings: &[[u8; 4]]) -> Kwh
 // number: an enum would be made of what test_in_range has tested, for three functions. No type of a full time in its range: two functions
 // ask for that.
 #[tactic(auto, unfolding(crate::specs::Power::measured_of))]
-fn measured_of(trip: bool, trial: Trial, energy: Kwh) -> Option<Kw>
-    requires { (least_time ≤ trial.tc) × (trial.tc ≤ greatest_time) }
+fn measured_of(trip: bool, trial: Trial, energy: Kwh) -> Option<Watts>
+    requires { (least_time ≤ trial.tc) × (trial.tc ≤ greatest_time) × (trial.count ≤ trial.tc) × (energy.0 ≤ trial.count * greatest_reading) }
     ensures { result ≡ measured_of trip trial.ending trial.tc trial.count energy }
 {
     let reached = reached(trial);
@@ -68,15 +68,15 @@ fn measured_of(trip: bool, trial: Trial, energy: Kwh) -> Option<Kw>
 }
 
 // A power, capped by PIC if given.
-fn capped(cap: Option<Kw>, power: Kw) -> Kw
+fn capped(cap: Option<Kw>, power: Watts) -> Watts
     ensures { result ≡ capped cap power }
 {
-    cap.map_or(power, |most| least(power, most))
+    cap.map_or(power, |most| capped_by_kilowatts(power, most))
 }
 
 // A component after an accepted test, whose ending is a number as in `Trial`. A match: each case has a component of its own.
 #[tactic(auto, unfolding(crate::specs::Power::after_test))]
-fn after_test(cap: Option<Kw>, ending: u32, old: Component, measured: Option<Kw>) -> Component
+fn after_test(cap: Option<Kw>, ending: u32, old: Component, measured: Option<Watts>) -> Component
     ensures { result ≡ after_test cap ending old measured }
 {
     match measured {

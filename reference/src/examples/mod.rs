@@ -8,6 +8,7 @@ mod replies;
 mod stages;
 mod summary;
 mod thirteen;
+mod watts;
 mod years;
 
 use crate::cases;

@@ -18,7 +18,7 @@ fn the_six_letters_of_j() {
     assert_eq!(letter('R'), ["R 16 15 1"]);
 }
 
-/// The result, and the memory of a void trip, of a first test of TC 5 with readings of 1,000.
+/// The result in W, and the memory of a void trip, of a first test of TC 5 with readings of 1,000.
 fn first_test(ending: u8, count: usize) -> (Option<u32>, bool) {
     let readings = " 1000".repeat(count);
     let run = run(&format!("year 720 120 4\nunit 1 1 1 17 0 0 0 0 0\ntest 1 0 {ending} 5 {count}{readings}\n"));
@@ -30,9 +30,9 @@ fn first_test(ending: u8, count: usize) -> (Option<u32>, bool) {
 #[test]
 fn counts_3_and_4_of_tc_5_under_endings_1_and_2() {
     assert_eq!(first_test(1, 3), (None, false));
-    assert_eq!(first_test(1, 4), (Some(4000), false));
+    assert_eq!(first_test(1, 4), (Some(4_000_000), false));
     assert_eq!(first_test(2, 3), (None, true));
-    assert_eq!(first_test(2, 4), (Some(3200), false));
+    assert_eq!(first_test(2, 4), (Some(3_200_000), false));
 }
 
 #[test]

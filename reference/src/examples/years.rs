@@ -8,7 +8,7 @@ fn the_memory_of_a_void_trip_is_kept_by_unit_and_component() {
                 test 1 1 2 5 1 100\ntest 1 2 2 5 1 100\ntest 2 1 2 5 1 100\ntest 1 1 2 5 1 100\n";
     let plants = run(text).book.plants;
     let (one, two) = (plants[0].unwrap(), plants[1].unwrap());
-    assert_eq!((one.parts[1].power, one.parts[1].void_trip), (Some(80), false));
+    assert_eq!((one.parts[1].power, one.parts[1].void_trip), (Some(80_000), false));
     assert_eq!((one.parts[2].power, one.parts[2].void_trip), (None, true));
     assert_eq!((two.parts[1].power, two.parts[1].void_trip), (None, true));
 }

@@ -1,4 +1,4 @@
-//! Seeded random journals and outage logs.
+//! Seeded random journals, plants and outage logs.
 
 mod calls;
 mod demand;
@@ -6,6 +6,7 @@ mod draft;
 mod draw;
 mod faults;
 pub mod logs;
+pub mod plants;
 mod season;
 
 use std::fs;
@@ -171,7 +172,9 @@ fn any_order(draft: &mut Draft) {
 #[cfg(test)]
 mod tests {
     use super::*;
+    use crate::book::{Book, Plant};
     use crate::journal::run_with;
+    use crate::offer;
 
     #[test]
     fn a_seed_and_a_number_give_one_journal() {
@@ -195,6 +198,22 @@ mod tests {
         assert!((0..=16).all(|number| met[number] >= 5 || number == 15), "{met:?}");
         assert_eq!(met[15], 0);
         assert!(closed > 450);
+    }
+
+    #[test]
+    fn watts_would_at_times_choose_the_second_year_in_place_of_the_first() {
+        let mut others = 0;
+        for number in 0..2_000 {
+            let Book { stage: Stage::Firm | Stage::Closed, plants, hours, .. } = run(&journal(1, number)).book else {
+                continue;
+            };
+            let units = || plants.iter().flatten();
+            let in_watts = |plant: &Plant| offer::offer_in_watts(&plant.unit, &plant.parts, &hours);
+            let kilowatts: Vec<(u8, u64)> = units().map(|plant| (plant.unit.flags, plant.offer)).collect();
+            let watts: Vec<(u8, u64)> = units().map(|plant| (plant.unit.flags, in_watts(plant))).collect();
+            others += u32::from(offer::chosen_year(&kilowatts) == 1 && offer::chosen_year(&watts) == 2);
+        }
+        assert!(others >= 20, "{others}");
     }
 
     #[test]

@@ -6,7 +6,9 @@ use super::draft::{any_consumer, shuffle, shuffled, test_record, Draft};
 use super::faults::fault;
 use crate::book::Stage;
 use crate::call::{Availability, Call, Contract, Declare, FIRST_YEAR, SECOND_YEAR};
+use crate::plant::Minutes;
 use crate::range::{CONSUMERS, MOST_KW, PRODUCERS, UNITS};
+use crate::record;
 
 /// Adds faults at the style's rate.
 pub fn perhaps_fault(draft: &mut Draft) {
@@ -75,11 +77,11 @@ fn plant(draft: &mut Draft, number: u8) {
     }
 }
 
-/// 01 "Efficient offer": enters the records of one unit again for its twin, used in the other year.
+/// 01 "Efficient offer": enters the records of a unit again for its twin, used in the other year, at times of more W.
 fn repeat(draft: &mut Draft, part: std::ops::Range<usize>, unit: u8, twin: u8) {
     let records = draft.journal[part].to_vec();
     let mut place = 0;
-    while let Ok((call, next)) = crate::record::read(&records[..], place) {
+    while let Ok((call, next)) = record::read(&records[..], place) {
         let mut record = records[place..next].to_vec();
         let own = match call {
             Call::Unit(enrolled) => enrolled.unit == unit,
@@ -89,12 +91,26 @@ fn repeat(draft: &mut Draft, part: std::ops::Range<usize>, unit: u8, twin: u8) {
         };
         if own {
             record[2] = twin;
-            if let Call::Unit(_) = call {
-                record[5] ^= FIRST_YEAR | SECOND_YEAR;
+            match call {
+                Call::Unit(_) => record[5] ^= FIRST_YEAR | SECOND_YEAR,
+                Call::Availability(Availability { component, minutes, .. }) if draft.draw.chance(50) => {
+                    let minutes = with_one_more(minutes);
+                    record = record::bytes(&Call::Availability(Availability { unit: twin, component, minutes }));
+                }
+                _ => {}
             }
             draft.put_record(&record);
         }
         place = next;
+    }
+}
+
+/// 02 "A6": minutes with one more in service, if there can be, so that offers of the same kW may differ by W.
+fn with_one_more(minutes: Minutes) -> Minutes {
+    let Minutes { hd, hif, hed, .. } = minutes;
+    match hif {
+        0 => Minutes { hed: hed.saturating_sub(1), ..minutes },
+        _ => Minutes { hd: hd + 1, hif: hif - 1, ..minutes },
     }
 }
 

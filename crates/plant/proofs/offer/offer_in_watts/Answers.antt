@@ -1,6 +1,6 @@
 use Rattle.std.proofs.Common.{arith}
 use Rattle.plant.proofs.Offers.{offer_of_no_kind}
-use Rattle.plant.proofs.offer.firm_offer.Goals as goal
+use Rattle.plant.proofs.offer.offer_in_watts.Goals as goal
 
 pub returns-in_default : goal.returns-in_default
 returns-in_default c =
