@@ -12,7 +12,7 @@ run:
 flags = $(firstword -$(MAKEFLAGS))
 caller = $(or $(if $(findstring w,$(flags))$(findstring s,$(flags))$(filter --no-print-directory,$(MAKEFLAGS)),$(PWD)),$(CURDIR))
 
-#: test       proves every crate, tries every must-fail edit, runs every program and every test; SEED= COUNT= choose the random journals (1, 5000) and outage logs (1, 20000)
+#: test       proves every crate, tries every must-fail edit, runs every program and every test; SEED= COUNT= choose the random journals (1, 5000), outage logs and plants (1, 20000)
 test:
 	@scripts/test
 

@@ -1,11 +1,11 @@
 //! Firm offers and efficient offers.
 
 use crate::call::{Unit, Year, FIRST_YEAR, FORCED, SECOND_YEAR, SUPPLY_REPORT};
-use crate::plant::{Component, WATTS};
+use crate::plant::{Component, WATTS_OF_KILOWATT};
 
 /// 01 "Firm offer" (2.1.1 to 2.1.7), 02 "A6": a unit's offer, rounded down to kW once it is finished.
 pub fn firm_offer(unit: &Unit, parts: &[Component; 3], hours: &Year) -> u64 {
-    offer_in_watts(unit, parts, hours) / WATTS
+    offer_in_watts(unit, parts, hours) / WATTS_OF_KILOWATT
 }
 
 /// 02 "A6": a unit's offer before it is rounded down to kW, 0 without a needed result, availability or supply report.
@@ -23,7 +23,7 @@ fn complete_offer(unit: &Unit, parts: &[Component; 3], hours: &Year) -> Option<u
         }
         2 => {
             supply_report(unit)?;
-            Some(parts[0].availability?.derate(pp.min(WATTS * u64::from(unit.ppr))))
+            Some(parts[0].availability?.derate(pp.min(WATTS_OF_KILOWATT * u64::from(unit.ppr))))
         }
         3 | 7 => Some(derated(&parts[0])?.min(over(unit.e1, hours.nhrm))),
         4 | 6 => Some(derated(&parts[0])?.min(over(unit.e1, hours.ndhmd.into()))),
@@ -50,7 +50,7 @@ pub fn derated(part: &Component) -> Option<u64> {
 
 /// 01 "Firm offer", 02 "A6": an energy times 1,000 over hours, rounded down to whole W.
 pub fn over(energy: u32, hours: u16) -> u64 {
-    WATTS * u64::from(energy) / u64::from(hours)
+    WATTS_OF_KILOWATT * u64::from(energy) / u64::from(hours)
 }
 
 /// 01 "Efficient offer" (2.2.1 c), 02 "A6": the simulated year of the greater sum of offers in kW, a tie the first.

@@ -31,7 +31,7 @@ pub struct Minutes {
 pub const MOST_MINUTES: u32 = 1_052_640;
 
 /// 02 "A6": the watts of a kilowatt.
-pub const WATTS: u64 = 1_000;
+pub const WATTS_OF_KILOWATT: u64 = 1_000;
 
 impl Minutes {
     /// Annex 2.1: the numerator HD + HMP - HED of the coefficient.
@@ -83,8 +83,8 @@ impl Component {
         };
         match divisor {
             Some(quarters) => {
-                let power = 4 * WATTS * energy / quarters;
-                let power = injection.map_or(power, |pic| power.min(WATTS * u64::from(pic)));
+                let power = 4 * WATTS_OF_KILOWATT * energy / quarters;
+                let power = injection.map_or(power, |pic| power.min(WATTS_OF_KILOWATT * u64::from(pic)));
                 self.power = Some(power as u32);
                 self.void_trip = false;
             }

@@ -3,7 +3,7 @@
 
 use crate::call::{Unit, Year};
 use crate::offer::supply_report;
-use crate::plant::{Component, WATTS};
+use crate::plant::{Component, WATTS_OF_KILOWATT};
 
 /// 01 "Firm offer" (2.1.1 to 2.1.7): a unit's offer in kW, 0 without a needed result, availability or supply report.
 pub fn firm_offer(unit: &Unit, parts: &[Component; 3], hours: &Year) -> u64 {
@@ -37,7 +37,7 @@ fn complete_offer(unit: &Unit, parts: &[Component; 3], hours: &Year) -> Option<u
 
 /// 01 "Maximum power" (2.3.5): 4S over the divisor in kW, capped by PIC, which is the result in W rounded down to kW.
 fn power(part: &Component) -> Option<u64> {
-    Some(u64::from(part.power?) / WATTS)
+    Some(u64::from(part.power?) / WATTS_OF_KILOWATT)
 }
 
 /// 01 "Availability" (annex 2.1): a component's PP·c in kW, none without its result or its availability.

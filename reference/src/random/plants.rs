@@ -8,7 +8,7 @@ use super::calls::{self, Style, Trial};
 use super::draw::Draw;
 use crate::call::Year;
 use crate::offer::{derated, over};
-use crate::plant::{Component, Minutes, PowerTest, WATTS};
+use crate::plant::{Component, Minutes, PowerTest, WATTS_OF_KILOWATT};
 use crate::range::{MOST_ENERGY, MOST_KW};
 
 /// The most bytes of a file of plants.
@@ -102,7 +102,7 @@ impl Sketch {
         let result = if results.is_empty() { 0 } else { self.draw.pick(&results) };
         let pic = self.kilowatts_about(result);
         for part in &mut self.parts {
-            part.power = part.power.map(|power| u64::from(power).min(WATTS * u64::from(pic)) as u32);
+            part.power = part.power.map(|power| u64::from(power).min(WATTS_OF_KILOWATT * u64::from(pic)) as u32);
         }
         format!("0 1 {pic}\n")
     }
@@ -125,7 +125,7 @@ impl Sketch {
                 cap = self.energy_about(store, peak);
                 let store = store.min(over(e2, peak)).min(over(cap, peak));
                 // the rest up to a whole kW, or to PP
-                let whole = (store + gen).div_ceil(WATTS) * WATTS - store;
+                let whole = (store + gen).div_ceil(WATTS_OF_KILOWATT) * WATTS_OF_KILOWATT - store;
                 let rest = self.draw.pick(&[gen, whole, pp.saturating_sub(store)]);
                 e1 = self.energy_about(rest, peak);
             }
@@ -143,7 +143,7 @@ impl Sketch {
 
     /// A power in kW about one in W: the next one below or above, one not far away, or any.
     fn kilowatts_about(&mut self, watts: u64) -> u32 {
-        let below = (watts / WATTS) as u32;
+        let below = (watts / WATTS_OF_KILOWATT) as u32;
         let power = match self.draw.between(0, 9) {
             0..=2 => below,
             3..=6 => below + 1,
@@ -156,7 +156,8 @@ impl Sketch {
 
     /// An energy that gives over the hours about a power in W: the next one, one of whole kW, one not far away, or any.
     fn energy_about(&mut self, watts: u64, hours: u16) -> u32 {
-        let (below, whole) = (watts * u64::from(hours) / WATTS, watts / WATTS * u64::from(hours));
+        let (below, whole) =
+            (watts * u64::from(hours) / WATTS_OF_KILOWATT, watts / WATTS_OF_KILOWATT * u64::from(hours));
         let energy = match self.draw.between(0, 9) {
             0..=2 => below,
             3..=5 => below + 1,
