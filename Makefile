@@ -16,7 +16,7 @@ caller = $(or $(if $(findstring w,$(flags))$(findstring s,$(flags))$(filter --no
 test:
 	@scripts/test
 
-#: bench      measures the division and the outage log against plain C, and the program and its C function against the reference
+#: bench      measures the division, of 64 and of 300 weights, and the outage log against plain C, and the program and its C function against the reference
 bench:
 	@scripts/bench-share
 	@scripts/bench-plant

@@ -8,7 +8,7 @@ import struct
 import sys
 
 # yearbook.h: no listing is longer
-LISTING_MAX = 13192
+LISTING_MAX = 45288
 
 
 def library(name, folder):

@@ -29,7 +29,7 @@ extern "C" {
 /* Limits, inclusive. */
 #define SHARE_TOTAL_MAX UINT64_C(6000000000000)
 #define SHARE_WEIGHT_MAX UINT32_C(3000000)
-#define SHARE_COUNT_MAX 64
+#define SHARE_COUNT_MAX 300
 
 /* Bytes of one weight and of one amount. */
 #define SHARE_WEIGHT_SIZE 4

@@ -1,5 +1,6 @@
 /*
- * yearbook.h: a journal's listing, its printed close, the figures of its run.
+ * yearbook.h: a journal's listing, its printed close, the figures of its run,
+ * and the same journal for 64 consumers.
  *
  * A journal is a sequence of records, each a call on the firm capacity book of
  * one year. The run takes them one after the other, from a fresh book: a call
@@ -38,6 +39,11 @@
  * records read, accepted and refused, where and why the reading stopped, and
  * the first refused record with the number that it met.
  *
+ * A journal for 64 consumers is for programs that know consumers 1 to 64 alone:
+ * none of its records has a mark for consumers above 64, whatever its fields
+ * hold. It is the given journal itself, byte for byte, and there is none where
+ * such a mark occurs, or where the reading stops.
+ *
  * Link with libyearbook.a, or by pkg-config:
  *
  *   cc .. $(pkg-config --cflags --libs yearbook)
@@ -55,22 +61,23 @@ extern "C" {
 #endif
 
 /* No listing is longer: a buffer of this size is never too short. */
-#define YEARBOOK_LISTING_MAX 13192
+#define YEARBOOK_LISTING_MAX 45288
 
-/* No printed close is longer: 64 lines and 2 headings of 37 bytes each. */
-#define YEARBOOK_PAGE_MAX 2442
+/* No printed close is longer: 300 lines and 6 headings of 37 bytes each. */
+#define YEARBOOK_PAGE_MAX 11322
 
 /* The figures of every run have this size: 8 numbers of 8 bytes each. */
 #define YEARBOOK_RUN_SIZE 64
 
-/* What the functions return. */
-#define YEARBOOK_OK 0     /* the text, or the figures, were written */
+/* What the functions return; yearbook_narrow may return 1, 2 and 18 too. */
+#define YEARBOOK_OK 0     /* what was asked for was written */
 #define YEARBOOK_STAGE 4  /* yearbook_page alone: the year is not closed */
-#define YEARBOOK_SHORT 15 /* the buffer is too short for text or figures */
+#define YEARBOOK_SHORT 15 /* the buffer is too short for it */
 
 /*
  * The other numbers, as yearbook_run tells them: why the reading stopped, and
- * what the first refused record met, which may be YEARBOOK_STAGE too.
+ * what the first refused record met, which may be YEARBOOK_STAGE too. It never
+ * tells 18, since a run takes records with such a mark as it takes the others.
  */
 #define YEARBOOK_CUT_SHORT 1       /* record cut short: a stop */
 #define YEARBOOK_UNKNOWN_MARK 2    /* unknown mark: a stop */
@@ -86,30 +93,35 @@ extern "C" {
 #define YEARBOOK_NO_WEIGHT 13      /* weights sum to 0 */
 #define YEARBOOK_ADJUSTED 14       /* adjusted demand above 3,000,000 kW */
 #define YEARBOOK_NO_REAL_DEMAND 16 /* consumer without a reading or a mean */
+#define YEARBOOK_WIDE_MARK 18      /* mark for consumers above 64: no run meets it */
+#define YEARBOOK_CHARGES 19        /* charges above 6,000,000,000,000 cents */
 
 /*
  * Each function takes a journal and a buffer. yearbook_list and yearbook_page
  * write a text, and take besides a pointer to where its length in bytes is
  * told; the text has no 0 byte at its end. yearbook_run writes the figures of
- * the run, always YEARBOOK_RUN_SIZE bytes, and tells no length.
+ * the run, always YEARBOOK_RUN_SIZE bytes, and tells no length, and neither
+ * does yearbook_narrow, which writes as many bytes as the journal has.
  *
  * On YEARBOOK_OK the bytes of the buffer behind what was written are kept. On
  * any other answer no byte of the buffer is written, and the length is left as
  * it was. The journal is only read.
  *
- * A refused record and a stop are no error of the call. Line R of the listing
- * counts the refused records; a stop shows in neither text, since line R counts
- * only what was read. yearbook_run tells both, of a journal of any length:
- * where and why the reading stopped, and the first refused record with its
- * number. The reply to each record is told by the program, of a journal of up
- * to 65,536 bytes: yearbook replies.
+ * All but yearbook_narrow run the journal, and then a refused record and a stop
+ * are no error of the call. Line R of the listing counts the refused records; a
+ * stop shows in neither text, since line R counts only what was read.
+ * yearbook_run tells both, of a journal of any length: where and why the
+ * reading stopped, and the first refused record with its number. The reply to
+ * each record is told by the program, of a journal of up to 65,536 bytes:
+ * yearbook replies.
  *
  * journal must point to journal_len bytes that can be read. It may be NULL
- * where journal_len is 0: the book is then a fresh one.
+ * where journal_len is 0: the journal is then empty, and the book a fresh one.
  *
- * The buffer, listing, page or figures, must point to as many bytes that can be
- * written as its length says. It may be NULL where this is 0: the answer is
- * then never YEARBOOK_OK, since neither a text nor the figures are empty.
+ * The buffer, listing, page, figures or out, must point to as many bytes that
+ * can be written as its length says. It may be NULL where this is 0: the answer
+ * is then never YEARBOOK_OK, since neither a text nor the figures are empty,
+ * but that yearbook_narrow has nothing to write of an empty journal.
  *
  * The pointer to the length, written or length, must be aligned for its type;
  * journal and buffer may have any alignment. It must never be NULL, not even
@@ -201,6 +213,33 @@ uint32_t yearbook_page(const uint8_t *journal, size_t journal_len,
  */
 uint32_t yearbook_run(const uint8_t *journal, size_t journal_len,
                       uint8_t *figures, size_t figures_len);
+
+/*
+ * Writes the journal for programs that know consumers 1 to 64 alone, if it is
+ * one for them. Nothing is run: no range, no stage and no figure is looked at.
+ *
+ *   journal      the records, any bytes
+ *   journal_len  the length of journal in bytes, of any size
+ *   out          the buffer that receives the journal
+ *   out_len      the length of this buffer in bytes
+ *
+ * Marks for consumers above 64 are 64 6D, 63 6D, 72 6C, 6D 74 and 61 74,
+ * hexadecimal, of declare, commit, release, meter and mean.
+ *
+ * Returns what the first record meets that meets one of the first three, and
+ * where none does, one of the last two:
+ *
+ *   YEARBOOK_CUT_SHORT     the journal ends inside the record
+ *   YEARBOOK_UNKNOWN_MARK  no mark stands where the record should begin
+ *   YEARBOOK_WIDE_MARK     the record is whole, and its mark is one of these
+ *   YEARBOOK_SHORT         out_len is less than journal_len
+ *   YEARBOOK_OK            the first journal_len bytes of out are the journal's
+ *
+ * An empty journal is one for 64 consumers. A consumer above 64 in a record
+ * without such a mark is out of its range, which is not looked at either.
+ */
+uint32_t yearbook_narrow(const uint8_t *journal, size_t journal_len,
+                         uint8_t *out, size_t out_len);
 
 #ifdef __cplusplus
 }

@@ -1,6 +1,7 @@
 /*
- * Times share_divide and plain_divide on the same inputs, in turn, and prints
- * the median time of one division by each and their ratio.
+ * Times share_divide and plain_divide on the same inputs, in turn, for 64
+ * weights and for 300, and prints of each the median time of one division by
+ * each and their ratio.
  */
 #include "../rounds.h"
 
@@ -12,23 +13,34 @@ typedef uint32_t divide(uint64_t total,
 
 divide plain_divide;
 
-#define COUNT SHARE_COUNT_MAX
 #define INPUTS 256
 #define PASSES 16
 
+/* The numbers of weights that are measured, one after the other. */
+static const size_t counts[] = {64, SHARE_COUNT_MAX};
+
+#define COUNTS (sizeof counts / sizeof counts[0])
+
 struct input {
     uint64_t total;
-    uint8_t weights[COUNT * SHARE_WEIGHT_SIZE];
+    uint8_t weights[SHARE_COUNT_MAX * SHARE_WEIGHT_SIZE];
 };
 
 static struct input inputs[INPUTS];
 
-static void make_inputs(void)
+/* The number of weights that is measured, and the bytes of weights and amounts. */
+static size_t count, weights_len, amounts_len;
+
+static void make_inputs(size_t weights)
 {
     uint64_t state = 1;
+
+    count = weights;
+    weights_len = count * SHARE_WEIGHT_SIZE;
+    amounts_len = count * SHARE_AMOUNT_SIZE;
     for (int i = 0; i < INPUTS; i++) {
         inputs[i].total = next(&state) % (SHARE_TOTAL_MAX + 1);
-        for (int j = 0; j < COUNT; j++) {
+        for (size_t j = 0; j < count; j++) {
             uint32_t weight = (uint32_t)(next(&state) % (SHARE_WEIGHT_MAX + 1));
             for (int k = 0; k < SHARE_WEIGHT_SIZE; k++)
                 inputs[i].weights[j * SHARE_WEIGHT_SIZE + k] = (uint8_t)(weight >> 8 * k);
@@ -39,13 +51,11 @@ static void make_inputs(void)
 static void check_equal(void)
 {
     for (int i = 0; i < INPUTS; i++) {
-        uint8_t ours[COUNT * SHARE_AMOUNT_SIZE], plain[COUNT * SHARE_AMOUNT_SIZE];
-        uint32_t a = share_divide(inputs[i].total, inputs[i].weights, sizeof inputs[i].weights,
-                                  ours, sizeof ours);
-        uint32_t b = plain_divide(inputs[i].total, inputs[i].weights, sizeof inputs[i].weights,
-                                  plain, sizeof plain);
-        if (a != SHARE_OK || b != SHARE_OK || memcmp(ours, plain, sizeof ours) != 0) {
-            fprintf(stderr, "bench: the two differ on input %d\n", i);
+        uint8_t ours[SHARE_COUNT_MAX * SHARE_AMOUNT_SIZE], plain[sizeof ours];
+        uint32_t a = share_divide(inputs[i].total, inputs[i].weights, weights_len, ours, amounts_len);
+        uint32_t b = plain_divide(inputs[i].total, inputs[i].weights, weights_len, plain, amounts_len);
+        if (a != SHARE_OK || b != SHARE_OK || memcmp(ours, plain, amounts_len) != 0) {
+            fprintf(stderr, "bench: the two differ on input %d of %zu weights\n", i, count);
             exit(1);
         }
     }
@@ -54,13 +64,12 @@ static void check_equal(void)
 /* The calls of a round. */
 static void round_of(divide *f)
 {
-    static uint8_t amounts[COUNT * SHARE_AMOUNT_SIZE];
+    static uint8_t amounts[SHARE_COUNT_MAX * SHARE_AMOUNT_SIZE];
     uint32_t refused = 0;
 
     for (int pass = 0; pass < PASSES; pass++)
         for (int i = 0; i < INPUTS; i++)
-            refused |= f(inputs[i].total, inputs[i].weights, sizeof inputs[i].weights,
-                         amounts, sizeof amounts);
+            refused |= f(inputs[i].total, inputs[i].weights, weights_len, amounts, amounts_len);
     if (refused != SHARE_OK)
         exit(1);
 }
@@ -77,9 +86,11 @@ static void plain(void)
 
 int main(void)
 {
-    make_inputs();
-    check_equal();
-    printf("one division of %d weights: ", COUNT);
-    compare_rounds(INPUTS, PASSES * INPUTS, "libshare", ours, plain);
+    for (size_t k = 0; k < COUNTS; k++) {
+        make_inputs(counts[k]);
+        check_equal();
+        printf("one division of %zu weights: ", count);
+        compare_rounds(INPUTS, PASSES * INPUTS, "libshare", ours, plain);
+    }
     return 0;
 }

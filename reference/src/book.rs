@@ -1,5 +1,7 @@
 //! The book and its eleven calls.
 
+use std::array;
+
 use crate::call::{Availability, Call, Contract, Declare, Mean, Meter, Test, Unit, Year};
 use crate::charge::{self, Settlement};
 use crate::number::Number;
@@ -81,8 +83,8 @@ impl Default for Book {
 }
 
 /// 01 "Quantities": the place of a unit, producer or consumer number in its array.
-fn at(number: u8) -> usize {
-    usize::from(number) - 1
+fn at(number: impl Into<usize>) -> usize {
+    number.into() - 1
 }
 
 /// 01 "The book": the stage to which a call belongs.
@@ -165,7 +167,8 @@ impl Book {
 
     /// 01 "Division by shares" (2.6.5.1), "Efficient offer": firm demands and offers stand from here; meets 13.
     fn fix(&mut self, dmp: u32) -> Result<(), Number> {
-        let weights = self.consumers.map(|consumer| consumer.map_or(0, |consumer| consumer.d));
+        let weights: [u32; CONSUMERS] =
+            array::from_fn(|place| self.consumers[place].as_ref().map_or(0, |consumer| consumer.d));
         let mut firm = [0; CONSUMERS];
         share::divide(dmp.into(), &weights, &mut firm)?;
         for (consumer, firm) in self.consumers.iter_mut().zip(firm) {
@@ -197,7 +200,7 @@ impl Book {
     }
 
     /// 01 "Numbered replies", 10: the consumer of a commit, release, meter or mean is declared.
-    fn declared_consumer(&mut self, consumer: u8) -> Result<&mut Consumer, Number> {
+    fn declared_consumer(&mut self, consumer: u16) -> Result<&mut Consumer, Number> {
         self.consumers[at(consumer)].as_mut().ok_or(Number::Undeclared)
     }
 
@@ -240,9 +243,9 @@ impl Book {
         Ok(())
     }
 
-    /// 01 "Close" (2.6.5.2): nothing is put in the book until every check has passed; meets 16, 14.
+    /// 01 "Close" (2.6.5.2): nothing is put in the book until every check has passed; meets 16, 14, 19.
     fn close(&mut self, price: u16) -> Result<(), Number> {
-        self.settlement = charge::settle(&self.consumers, self.declared, self.dmp, price)?;
+        charge::settle(&self.consumers, self.declared, self.dmp, price, &mut self.settlement)?;
         self.stage = Stage::Closed;
         Ok(())
     }

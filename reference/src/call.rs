@@ -1,7 +1,8 @@
-//! The eleven calls and the forms of their records.
+//! The eleven calls and the forms of their records, of which a call of a consumer has two.
 
 use crate::field::{self, Field};
 use crate::plant::{Minutes, PowerTest};
+use crate::range::CONSUMERS_IN_A_BYTE;
 
 /// 01 "Journal records", year: NHRM, NHMD and NDHMD in hours.
 #[derive(Clone, Copy, Debug, Default, PartialEq, Eq)]
@@ -62,7 +63,7 @@ pub struct Availability {
 /// 01 "Journal records", declare: D and the administrator's projection A in kW.
 #[derive(Clone, Copy, Debug, PartialEq, Eq)]
 pub struct Declare {
-    pub consumer: u8,
+    pub consumer: u16,
     pub d: u32,
     pub a: u32,
 }
@@ -71,21 +72,21 @@ pub struct Declare {
 #[derive(Clone, Copy, Debug, PartialEq, Eq)]
 pub struct Contract {
     pub producer: u8,
-    pub consumer: u8,
+    pub consumer: u16,
     pub q: u32,
 }
 
 /// 01 "Journal records", meter: Dreal in kW.
 #[derive(Clone, Copy, Debug, PartialEq, Eq)]
 pub struct Meter {
-    pub consumer: u8,
+    pub consumer: u16,
     pub dreal: u32,
 }
 
 /// 02 "A4": the mean of a consumer's daily maxima at the system's peak hours, in kW.
 #[derive(Clone, Copy, Debug, PartialEq, Eq)]
 pub struct Mean {
-    pub consumer: u8,
+    pub consumer: u16,
     pub mean: u32,
 }
 
@@ -140,8 +141,11 @@ const OF_AVAILABILITY: &[Field] = &[field::UNIT, field::COMPONENT, field::HD, fi
 /// 01 "Journal records": the fields of commit and of release.
 const OF_CONTRACT: &[Field] = &[field::PRODUCER, field::CONSUMER, field::Q];
 
-/// 01 "Journal records", 02 "A4": the table.
-pub static FORMS: [Form; 11] = [
+/// 02 "A7": these fields where the consumer is above 64.
+const OF_CONTRACT_ABOVE_64: &[Field] = &[field::PRODUCER, field::CONSUMER_ABOVE_64, field::Q];
+
+/// 01 "Journal records", 02 "A4", "A7": the table, the rows of consumers above 64 behind the others.
+pub static FORMS: [Form; 16] = [
     form([0x59, 0x52], "year", &[field::NHRM, field::NHMD, field::NDHMD]),
     form([0x55, 0x4E], "unit", OF_UNIT),
     form([0x54, 0x53], "test", OF_TEST),
@@ -153,23 +157,47 @@ pub static FORMS: [Form; 11] = [
     form([0x4D, 0x54], "meter", &[field::CONSUMER, field::DREAL]),
     form([0x43, 0x4C], "close", &[field::P]),
     form([0x41, 0x54], "mean", &[field::CONSUMER, field::MEAN]),
+    form([0x64, 0x6D], "declare", &[field::CONSUMER_ABOVE_64, field::D, field::A]),
+    form([0x63, 0x6D], "commit", OF_CONTRACT_ABOVE_64),
+    form([0x72, 0x6C], "release", OF_CONTRACT_ABOVE_64),
+    form([0x6D, 0x74], "meter", &[field::CONSUMER_ABOVE_64, field::DREAL]),
+    form([0x61, 0x74], "mean", &[field::CONSUMER_ABOVE_64, field::MEAN]),
 ];
 
+/// 01 "Journal records": the rows in front, one for each call's name.
+pub const CALLS: usize = 11;
+
+/// 02 "A7": the rows behind them, whose marks are for consumers above 64.
+pub fn above_64() -> &'static [Form] {
+    &FORMS[CALLS..]
+}
+
+/// 02 "A7": the row of the table for a call's name and, where the call is of a consumer, for the consumer's number.
+pub fn row(name: &str, consumer: u64) -> Option<&'static Form> {
+    let mut rows = FORMS.iter().filter(|form| form.name == name);
+    if consumer > CONSUMERS_IN_A_BYTE.into() {
+        rows.next_back()
+    } else {
+        rows.next()
+    }
+}
+
 impl Call<'_> {
-    /// 01 "Journal records": the row of the table that this call has.
+    /// 01 "Journal records", 02 "A7": the row of the table that this call has.
     pub fn form(&self) -> &'static Form {
+        let of_consumer = |consumer: u16, row, above_64| if consumer > CONSUMERS_IN_A_BYTE { above_64 } else { row };
         let row = match self {
             Call::Year(_) => 0,
             Call::Unit(_) => 1,
             Call::Test(_) => 2,
             Call::Availability(_) => 3,
-            Call::Declare(_) => 4,
+            Call::Declare(d) => of_consumer(d.consumer, 4, 11),
             Call::Fix(_) => 5,
-            Call::Commit(_) => 6,
-            Call::Release(_) => 7,
-            Call::Meter(_) => 8,
+            Call::Commit(c) => of_consumer(c.consumer, 6, 12),
+            Call::Release(c) => of_consumer(c.consumer, 7, 13),
+            Call::Meter(m) => of_consumer(m.consumer, 8, 14),
             Call::Close(_) => 9,
-            Call::Mean(_) => 10,
+            Call::Mean(m) => of_consumer(m.consumer, 10, 15),
         };
         &FORMS[row]
     }

@@ -3,7 +3,7 @@
 use crate::book::Consumer;
 use crate::number::Number;
 use crate::range::{CONSUMERS, MOST_KW};
-use crate::share;
+use crate::share::{self, GREATEST_TOTAL};
 
 /// 01 "Journal in, listing out", S and T: ADF in kW and cents by consumer, and the three sums in cents.
 #[derive(Clone, Debug, PartialEq, Eq)]
@@ -22,57 +22,51 @@ impl Default for Settlement {
     }
 }
 
-/// 01 "Close" (2.6.5.2): the figures of the declared consumers, `declared` being the sum of D; meets 16, then 14.
+/// 01 "Close" (2.6.5.2): puts the figures of the declared consumers in a settlement of none, `declared` being the sum of D; meets 16, 14, 19.
 pub fn settle(
     consumers: &[Option<Consumer>; CONSUMERS],
     declared: u64,
     dmp: u32,
     price: u16,
-) -> Result<Settlement, Number> {
+    settlement: &mut Settlement,
+) -> Result<(), Number> {
     if consumers.iter().flatten().any(|consumer| consumer.dreal().is_none()) {
         return Err(Number::NoRealDemand);
     }
-    let adjusted = adjusted_demands(consumers, declared, dmp)?;
-    let mut settlement = Settlement::default();
+    let adjusted = |consumer: &Consumer| adjusted_demand(consumer, declared, dmp);
+    if consumers.iter().flatten().any(|consumer| adjusted(consumer) > MOST_KW.into()) {
+        return Err(Number::Adjusted);
+    }
+    let adjustment = |consumer: &Consumer| consumer.firm as i64 - adjusted(consumer) as i64;
+    let charges = consumers.iter().flatten().map(|consumer| charge(consumer, adjustment(consumer), price)).sum();
+    if charges > GREATEST_TOTAL {
+        return Err(Number::Charges);
+    }
     let mut weights = [0; CONSUMERS];
     for (place, consumer) in consumers.iter().enumerate() {
         let Some(consumer) = consumer else { continue };
-        let adjustment = consumer.firm as i64 - i64::from(adjusted[place]);
-        let charge = charge(consumer, adjustment, price);
+        let adjustment = adjustment(consumer);
         settlement.adjustments[place] = adjustment;
-        settlement.cents[place] = -(charge as i64);
-        settlement.charges += charge;
+        settlement.cents[place] = -(charge(consumer, adjustment, price) as i64);
         weights[place] = adjustment.max(0) as u32;
     }
+    settlement.charges = charges;
     if weights.iter().all(|&weight| weight == 0) {
-        settlement.undistributed = settlement.charges;
-        return Ok(settlement);
+        settlement.undistributed = charges;
+        return Ok(());
     }
     let mut credits = [0; CONSUMERS];
-    share::divide(settlement.charges, &weights, &mut credits)?;
+    share::divide(charges, &weights, &mut credits)?;
     for (cents, credit) in settlement.cents.iter_mut().zip(credits) {
         *cents += credit as i64;
         settlement.credits += credit;
     }
-    Ok(settlement)
+    Ok(())
 }
 
-/// 01 "Close" (2.6.5.2): DFA = Dreal·DMP / ΣD of the consumers that have a Dreal, by their places; meets 14.
-fn adjusted_demands(
-    consumers: &[Option<Consumer>; CONSUMERS],
-    declared: u64,
-    dmp: u32,
-) -> Result<[u32; CONSUMERS], Number> {
-    let mut adjusted = [0; CONSUMERS];
-    for (place, consumer) in consumers.iter().enumerate() {
-        let Some(dreal) = consumer.and_then(|consumer| consumer.dreal()) else { continue };
-        let quotient = u128::from(dreal) * u128::from(dmp) / u128::from(declared);
-        if quotient > u128::from(MOST_KW) {
-            return Err(Number::Adjusted);
-        }
-        adjusted[place] = quotient as u32;
-    }
-    Ok(adjusted)
+/// 01 "Close" (2.6.5.2): DFA = Dreal·DMP / ΣD of one consumer, 0 without a Dreal.
+fn adjusted_demand(consumer: &Consumer, declared: u64, dmp: u32) -> u64 {
+    u64::from(consumer.dreal().unwrap_or(0)) * u64::from(dmp) / declared
 }
 
 /// 01 "Close" (2.6.5.2): -ADF·P·12 if ADF < 0 and 100·D < 98·A, else no charge.

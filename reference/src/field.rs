@@ -38,10 +38,13 @@ pub const NHRM: Field = field("NHRM", 2, "hours", 1, 744);
 pub const NHMD: Field = field("NHMD", 2, "hours", 1, 744);
 pub const NDHMD: Field = field("NDHMD", 1, "hours per day", 1, 24);
 
-/// 01 "Quantities": the numbers of units, producers and consumers.
+/// 01 "Quantities": the numbers of units and producers.
 pub const UNIT: Field = field("unit", 1, "a unit", 1, UNITS as u32);
 pub const PRODUCER: Field = field("producer", 1, "a producer", 1, PRODUCERS as u32);
+
+/// 02 "A7": the number of a consumer, in one byte or in two; each of the two takes its part of 1 to 300.
 pub const CONSUMER: Field = field("consumer", 1, "a consumer", 1, CONSUMERS as u32);
+pub const CONSUMER_ABOVE_64: Field = field("consumer", 2, "a consumer", 1, CONSUMERS as u32);
 
 /// 01 "Journal records", unit.
 pub const KIND: Field = field("kind", 1, "a kind", 1, 8);
@@ -102,7 +105,7 @@ mod tests {
     use crate::{range, record, text};
 
     /// Calls in range, with the places of the fields that may be the least and the greatest of their ranges there.
-    const IN_RANGE: [(&str, &[usize]); 15] = [
+    const IN_RANGE: [(&str, &[usize]); 20] = [
         ("year 1 1 1", &[0, 1, 2]),
         ("unit 1 1 1 8 0 0 0 0 0", &[0, 1, 3, 4]),
         ("unit 1 1 3 0 0 0 0 0 0", &[2]),
@@ -118,6 +121,11 @@ mod tests {
         ("meter 1 0", &[0, 1]),
         ("close 1", &[0]),
         ("mean 1 0", &[0, 1]),
+        ("declare 65 0 0", &[0, 1, 2]),
+        ("commit 1 65 1", &[0, 1, 2]),
+        ("release 1 65 1", &[0, 1, 2]),
+        ("meter 65 0", &[0, 1]),
+        ("mean 65 0", &[0, 1]),
     ];
 
     /// 01 "Numbered replies", 3: whether a call is in range with one of its fields changed; a count has as many readings.
@@ -134,8 +142,7 @@ mod tests {
     fn the_ranges_are_those_of_number_3() {
         let mut tried = 0;
         for (line, places) in IN_RANGE {
-            let name = line.split(' ').next().unwrap();
-            let form = FORMS.iter().find(|form| form.name == name).unwrap();
+            let form = record::read(&text::records(line).unwrap(), 0).unwrap().0.form();
             for &place in places {
                 let field = form.fields.get(place).unwrap_or(&READING);
                 let Field { least, greatest, .. } = *field;
@@ -157,7 +164,8 @@ mod tests {
             (NDHMD, "NDHMD: x is not hours per day, 1 to 24"),
             (UNIT, "unit: x is not a unit, 1 to 48"),
             (PRODUCER, "producer: x is not a producer, 1 to 16"),
-            (CONSUMER, "consumer: x is not a consumer, 1 to 64"),
+            (CONSUMER, "consumer: x is not a consumer, 1 to 300"),
+            (CONSUMER_ABOVE_64, "consumer: x is not a consumer, 1 to 300"),
             (KIND, "kind: x is not a kind, 1 to 8"),
             (FLAGS, "flags: x is not a sum of flags, 0 to 31"),
             (PIC, "PIC: x is not a power in kW, 0 to 3000000"),

@@ -49,7 +49,7 @@ fn record_answer(item: &[u8]) -> String {
         Ok(length) => hexadecimal(&buffer[..length]),
         Err(number) => (number as u8).to_string(),
     };
-    format!("read {} {next} {} {number} {written}", hexadecimal(&call.form().mark), fields.join(" "))
+    format!("read {} {next} {} {number} {written}", hexadecimal(&item[..2]), fields.join(" "))
 }
 
 /// Bytes as lowercase hexadecimal digits.
@@ -78,8 +78,10 @@ mod tests {
         input.extend_from_slice(&[0, 0, 1, 0, 0x59, 2, 0, 0, 0]);
         input.extend_from_slice(&[4, 0, 0x43, 0x4C, 0, 0]);
         input.extend_from_slice(&[11, 0, 0x54, 0x53, 1, 0, 1, 4, 1, 1, 2, 0, 0]);
+        input.extend_from_slice(b"\x07\0MT\x41\x07\0\0\0\x08\0mt\x41\0\x07\0\0\0\x08\0mt\x40\0\x07\0\0\0");
         let answers = "read 5952 7 720 120 4 0 5952d002780004\nend\nstop 1\nstop 2\nread 434c 4 0 3 3\n\
-                       read 5453 11 1 0 1 4 1 0 5453010001040101020000\n";
+                       read 5453 11 1 0 1 4 1 0 5453010001040101020000\nread 4d54 7 0 7 3 3\n\
+                       read 6d74 8 65 7 0 6d74410007000000\nread 6d74 8 0 7 3 3\n";
         assert_eq!(records(&input).unwrap(), answers);
         assert!(records(&[1]).is_err() && records(&[1, 0]).is_err());
     }

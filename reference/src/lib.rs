@@ -1,5 +1,6 @@
 //! The firm capacity book of document 01, written a second time from the papers alone.
 
+pub mod answers;
 pub mod book;
 pub mod call;
 pub mod card;
@@ -11,6 +12,7 @@ pub mod items;
 pub mod journal;
 pub mod lines;
 pub mod listing;
+pub mod narrow;
 pub mod number;
 pub mod offer;
 pub mod outages;

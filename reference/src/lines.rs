@@ -41,6 +41,7 @@ pub fn lines(journal: &[u8]) -> Lines {
 mod tests {
     use super::*;
     use crate::random;
+    use crate::record;
     use crate::text::records;
 
     /// The lines without their comments.
@@ -52,7 +53,8 @@ mod tests {
     fn lines_and_records_turn_into_each_other() {
         let text = "year 720 120 4\nunit 48 16 8 15 1 2 3 4 4294967295\ntest 1 2 0 4 2 7 750001\n\
                     availability 1 0 1 2 3 4\ndeclare 64 5 6\nfix 1\ncommit 1 2 3\nrelease 1 2 3\n\
-                    meter 1 0\nclose 65535\nmean 6 300\n";
+                    meter 1 0\nclose 65535\nmean 6 300\ndeclare 65 5 6\ncommit 1 255 3\nrelease 1 256 3\n\
+                    meter 299 0\nmean 300 300\nmeter 0 5\n";
         let journal = records(text).unwrap();
         assert_eq!(calls(&lines(&journal).text), text);
         assert_eq!(records(lines(&journal).text).unwrap(), journal);
@@ -89,12 +91,37 @@ mod tests {
         assert_eq!(calls(&lines(&journal).text), text);
     }
 
+    /// 02 "A7": the record of one byte and consumer 0 in place of each record whose form does not take its consumer, and how many these were.
+    fn with_consumer_0(journal: &[u8]) -> (Vec<u8>, u32) {
+        let (mut records, mut changed, mut place) = (Vec::new(), 0, 0);
+        while place < journal.len() {
+            let (call, next) = record::read(journal, place).expect("the journal has no stop");
+            let record = record::bytes(&call);
+            if record != journal[place..next] {
+                let mut text = String::new();
+                write_call(&call, 0, &mut text);
+                assert!(text.split(' ').any(|word| word == "0"), "{text}");
+                changed += 1;
+            }
+            records.extend(record);
+            place = next;
+        }
+        (records, changed)
+    }
+
     #[test]
     fn random_journals_turn_into_lines_and_back_up_to_the_stop() {
+        let mut journals_changed = 0;
         for number in 0..300 {
             let journal = random::journal(5, number);
-            let place = journal::run(&journal).place;
-            assert_eq!(records(lines(&journal).text).unwrap(), journal[..place]);
+            let journal = &journal[..journal::run(&journal).place];
+            let (expected, changed) = with_consumer_0(journal);
+            let again = records(lines(journal).text).unwrap();
+            assert_eq!(again, expected);
+            assert_eq!(calls(&lines(&again).text), calls(&lines(journal).text));
+            assert!(changed > 0 || again == journal);
+            journals_changed += u32::from(changed > 0);
         }
+        assert!((30..270).contains(&journals_changed), "{journals_changed}");
     }
 }

@@ -9,11 +9,11 @@ use std::process::ExitCode;
 use reference::field::decimal;
 use reference::lines::Lines;
 use reference::listing::{self, MOST_BYTES};
-use reference::{card, cases, desk, items, lines, random, text};
+use reference::{answers, card, cases, desk, items, lines, random, text};
 
 /// The subcommands.
-const USAGE: &str = "usage: reference yearbook | desk [FILE..] | page [FILE..] | figures [FILE..] | offers [FILE..] | \
-                     plant | plant-offers | counts | record | outages | replies | text | lines | \
+const USAGE: &str = "usage: reference yearbook | desk [FILE..] | page [FILE..] | figures [FILE..] | narrow [FILE..] | \
+                     offers [FILE..] | plant | plant-offers | counts | record | outages | replies | text | lines | \
                      random SEED COUNT DIR | plants SEED COUNT DIR | logs SEED COUNT";
 
 /// 01 "Journal in, listing out": the bytes from which the program sees that its input is too long.
@@ -51,15 +51,16 @@ fn answer(words: &[&str]) -> Result<Answer, String> {
     let output = match words {
         ["yearbook"] => listing::yearbook(&input(ENOUGH)?),
         ["desk", files @ ..] => each(files, ENOUGH, desk::parts)?,
-        ["page", files @ ..] => each(files, u64::MAX, cases::page)?,
-        ["figures", files @ ..] => each(files, u64::MAX, cases::figures)?,
-        ["offers", files @ ..] => each(files, ENOUGH, cases::offers)?,
+        ["page", files @ ..] => each(files, u64::MAX, answers::page)?,
+        ["figures", files @ ..] => each(files, u64::MAX, answers::figures)?,
+        ["narrow", files @ ..] => each(files, u64::MAX, answers::narrow)?,
+        ["offers", files @ ..] => each(files, ENOUGH, answers::offers)?,
         ["plant"] => cases::plant(&input_text()?)?.into_bytes(),
         ["plant-offers"] => cases::plant_offers(&input_text()?)?.into_bytes(),
         ["counts"] => card::counts().into_bytes(),
         ["record"] => items::records(&input(u64::MAX)?)?.into_bytes(),
         ["outages"] => items::outages(&input(u64::MAX)?)?.into_bytes(),
-        ["replies"] => cases::replies(&input(u64::MAX)?),
+        ["replies"] => answers::replies(&input(u64::MAX)?),
         ["text"] => text::records(input(u64::MAX)?)?,
         ["lines"] => {
             let Lines { text, stopped } = lines::lines(&input(u64::MAX)?);

@@ -38,6 +38,10 @@ pub enum Number {
     NoRealDemand = 16,
     /// 02 "A5", 17, after 3: a window or an entry whose end is not after its start, a window too long, or an entry out of order.
     OutOfOrder = 17,
+    /// 02 "A7", 18, in the converter: a mark for consumers above 64.
+    Above64 = 18,
+    /// 02 "A7", 19, after 14: charges above 6,000,000,000,000 cents.
+    Charges = 19,
 }
 
 /// 01 "Numbered replies": an accepted call returns 0, a refused one its number.
@@ -49,7 +53,7 @@ pub fn reply(result: Result<(), Number>) -> u8 {
 }
 
 /// 01 "Numbered replies": what each number means in short words, from 0, an accepted call.
-const MEANINGS: [&str; 18] = [
+const MEANINGS: [&str; 20] = [
     "accepted",
     "record cut short",
     "unknown mark",
@@ -68,6 +72,8 @@ const MEANINGS: [&str; 18] = [
     "buffer too short",
     "consumer without a reading or a mean",
     "outage log out of order",
+    "mark for consumers above 64",
+    "charges above 6,000,000,000,000 cents",
 ];
 
 /// 01 "Numbered replies": a number and what it means in short words.
@@ -76,7 +82,7 @@ pub fn in_words(number: u8) -> String {
 }
 
 /// 01 "Numbered replies": the column When, from number 1.
-const CONDITIONS: [&str; 17] = [
+const CONDITIONS: [&str; 19] = [
     "record cut short",
     "unknown mark",
     "field outside its range; a division's T, weights or their number",
@@ -94,6 +100,8 @@ const CONDITIONS: [&str; 17] = [
     "output buffer shorter than the record, or than a division's amounts",
     "close while a declared consumer has neither a reading nor a mean",
     "a window or an entry whose end is not after its start, a window too long, or an entry out of order",
+    "a mark for consumers above 64",
+    "charges above 6,000,000,000,000 cents",
 ];
 
 /// 01 "Numbered replies": a number and when it is met, as its row has it.

@@ -13,8 +13,10 @@ pub const MOST_ENERGY: u32 = 4_000_000_000;
 pub const UNITS: usize = 48;
 /// 01 "Quantities": producers are 1 to 16.
 pub const PRODUCERS: usize = 16;
-/// 01 "Quantities": consumers are 1 to 64.
-pub const CONSUMERS: usize = 64;
+/// 02 "A7": consumers are 1 to 300.
+pub const CONSUMERS: usize = 300;
+/// 02 "A7": consumers are 1 to 64 in a record whose consumer field has one byte, and above 64 in one whose field has two.
+pub const CONSUMERS_IN_A_BYTE: u16 = 64;
 
 /// 01 "Numbered replies", 3: whether all fields and readings of a call are in range.
 pub fn holds(call: &Call) -> bool {
@@ -39,8 +41,8 @@ pub fn holds(call: &Call) -> bool {
 }
 
 /// 01 "Quantities": a unit, producer or consumer number from 1 up to `most`.
-fn numbered(number: u8, most: usize) -> bool {
-    (1..=most).contains(&usize::from(number))
+fn numbered(number: impl Into<usize>, most: usize) -> bool {
+    (1..=most).contains(&number.into())
 }
 
 /// 01 "Journal records", year: the hours of the stage, of maximum demand and of those per day.

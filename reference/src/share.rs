@@ -2,8 +2,8 @@
 
 use crate::number::Number;
 
-/// 01 "Division by shares": the most weights that one division takes.
-pub const MOST_WEIGHTS: usize = 64;
+/// 01 "Division by shares", 02 "A7": the most weights that one division takes.
+pub const MOST_WEIGHTS: usize = 300;
 /// 01 "Division by shares": the greatest weight.
 pub const GREATEST_WEIGHT: u32 = 3_000_000;
 /// 01 "Division by shares": the greatest T.
@@ -17,33 +17,33 @@ pub fn divide(total: u64, weights: &[u32], amounts: &mut [u64]) -> Result<(), Nu
     if weights.iter().any(|&weight| weight > GREATEST_WEIGHT) {
         return Err(Number::Range);
     }
-    let sum: u128 = weights.iter().map(|&weight| u128::from(weight)).sum();
+    let sum: u64 = weights.iter().map(|&weight| u64::from(weight)).sum();
     if sum == 0 {
         return Err(Number::NoWeight);
     }
     if amounts.len() < weights.len() {
         return Err(Number::Buffer);
     }
-    let mut ranked = [(0u128, 0usize); MOST_WEIGHTS];
-    let ranked = &mut ranked[..weights.len()];
+    let mut remainders = [(0u64, 0usize); MOST_WEIGHTS];
+    let remainders = &mut remainders[..weights.len()];
     let mut left = total;
     for (place, &weight) in weights.iter().enumerate() {
-        let product = u128::from(total) * u128::from(weight);
-        let whole = (product / sum) as u64;
+        // at most 6,000,000,000,000 times 3,000,000, which is below 2 to the 64th
+        let product = total * u64::from(weight);
+        let whole = product / sum;
         amounts[place] = whole;
-        ranked[place] = (product % sum, place);
+        remainders[place] = (product % sum, place);
         left -= whole;
     }
-    rank(ranked);
-    for &(_, place) in ranked.iter().take(left as usize) {
+    for &(_, place) in first(remainders, left as usize) {
         amounts[place] += 1;
     }
     Ok(())
 }
 
-/// 01 "Division by shares": the order of the units left over, largest remainder first, then the lower number.
-fn rank(ranked: &mut [(u128, usize)]) {
-    ranked.sort_unstable_by(|one, other| other.0.cmp(&one.0).then(one.1.cmp(&other.1)));
+/// 01 "Division by shares": so many of the remainders, fewer than there are, the largest ones, of equal ones those of the lower numbers.
+fn first(remainders: &mut [(u64, usize)], left: usize) -> &[(u64, usize)] {
+    remainders.select_nth_unstable_by(left, |one, other| other.0.cmp(&one.0).then(one.1.cmp(&other.1))).0
 }
 
 #[cfg(test)]
@@ -73,9 +73,9 @@ mod tests {
 
     #[test]
     fn the_shares_sum_to_the_total_and_differ_from_the_quotient_by_less_than_one() {
-        let weights: Vec<u32> = (0..64).map(|n| (n * n * 7919 + 13) % 3_000_001).collect();
+        let weights: Vec<u32> = (0..300).map(|n| (n * n * 7919 + 13) % 3_000_001).collect();
         let sum: u128 = weights.iter().map(|&w| u128::from(w)).sum();
-        for total in [0, 1, 63, 64, 2_999_999, 5_759_999_970_000, GREATEST_TOTAL] {
+        for total in [0, 1, 63, 64, 299, 300, 301, 2_999_999, 5_759_999_970_000, GREATEST_TOTAL] {
             let amounts = shares(total, &weights).unwrap();
             assert_eq!(amounts.iter().sum::<u64>(), total);
             for (&amount, &weight) in amounts.iter().zip(&weights) {
@@ -87,15 +87,28 @@ mod tests {
 
     #[test]
     fn the_greatest_total_and_weights_fit() {
-        let amounts = shares(GREATEST_TOTAL, &[GREATEST_WEIGHT; 64]).unwrap();
-        assert_eq!(amounts, vec![GREATEST_TOTAL / 64; 64]);
+        for count in [64, 300] {
+            let amounts = shares(GREATEST_TOTAL, &vec![GREATEST_WEIGHT; count]).unwrap();
+            assert_eq!(amounts, vec![GREATEST_TOTAL / count as u64; count]);
+        }
         assert_eq!(shares(GREATEST_TOTAL, &[GREATEST_WEIGHT]), Ok(vec![GREATEST_TOTAL]));
+    }
+
+    #[test]
+    fn each_number_of_units_left_over_goes_to_the_lower_numbers_of_equal_weights() {
+        for count in [1, 2, 64, 65, 255, 256, 299, 300] {
+            for left in 0..count {
+                let amounts = shares((7 * count + left) as u64, &vec![11; count]).unwrap();
+                let expected: Vec<u64> = (0..count).map(|place| 7 + u64::from(place < left)).collect();
+                assert_eq!(amounts, expected);
+            }
+        }
     }
 
     #[test]
     fn numbers_come_in_the_order_3_13_15() {
         assert_eq!(shares(1, &[]), Err(Number::Range));
-        assert_eq!(shares(1, &[1; 65]), Err(Number::Range));
+        assert_eq!(shares(1, &[1; 301]), Err(Number::Range));
         assert_eq!(shares(1, &[3_000_001]), Err(Number::Range));
         assert_eq!(shares(GREATEST_TOTAL + 1, &[0]), Err(Number::Range));
         assert_eq!(divide(1, &[0, 0], &mut []), Err(Number::NoWeight));

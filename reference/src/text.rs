@@ -1,7 +1,7 @@
 //! Journals written as text, one call on each line, into records.
 
-use crate::call::{Form, FORMS};
-use crate::field::READING;
+use crate::call::{row, Form, CALLS, FORMS};
+use crate::field::{decimal, CONSUMER, READING};
 
 /// What some editors put before the first line of a text.
 const BYTE_ORDER_MARK: &[u8] = &[0xEF, 0xBB, 0xBF];
@@ -43,8 +43,16 @@ fn text_of_line(line: &[u8]) -> Result<&str, String> {
 fn record_of_line(line: &[u8]) -> Result<Vec<u8>, String> {
     let mut words = text_of_line(line)?.split('#').next().unwrap_or("").split_whitespace();
     let Some(name) = words.next() else { return Ok(Vec::new()) };
-    let form = FORMS.iter().find(|form| form.name == name).ok_or_else(|| no_such_call(name))?;
-    record_of(form, &words.collect::<Vec<&str>>())
+    let words: Vec<&str> = words.collect();
+    record_of(form_of(name, &words).ok_or_else(|| no_such_call(name))?, &words)
+}
+
+/// 02 "A7": the form of a call's name, of the two that a call of a consumer has the one that the consumer's number picks.
+fn form_of(name: &str, words: &[&str]) -> Option<&'static Form> {
+    let form = row(name, 0)?;
+    let place = form.fields.iter().position(|field| field.name == CONSUMER.name);
+    let consumer = place.and_then(|place| decimal(words.get(place)?));
+    row(name, consumer.unwrap_or(0))
 }
 
 /// 01 "Journal records": one record from its decimal fields, a test's readings following its count.
@@ -70,7 +78,7 @@ fn record_of(form: &Form, words: &[&str]) -> Result<Vec<u8>, String> {
 
 /// What is said of a name that is no call's.
 fn no_such_call(name: &str) -> String {
-    let names: Vec<&str> = FORMS.iter().map(|form| form.name).collect();
+    let names: Vec<&str> = FORMS[..CALLS].iter().map(|form| form.name).collect();
     format!("{name}: no such call; the calls are {}", names.join(" "))
 }
 
@@ -238,6 +246,15 @@ mod tests {
         assert_eq!(said("declare 1 5000000000 1"), "D: 5000000000 is not a power in kW, 0 to 3000000");
         assert_eq!(said("test 1 0 0 4 2 1 x"), "reading: x is not a reading in kWh, 0 to 750000");
         assert_eq!(said("mean 6 4294967296"), "mean: 4294967296 is not a power in kW, 0 to 3000000");
+        assert_eq!(said("mean 300 4294967296"), "mean: 4294967296 is not a power in kW, 0 to 3000000");
+        for word in ["65536", "70000", "99999999999999999999999999", "x", "-1", "6_5"] {
+            let message = format!("consumer: {word} is not a consumer, 1 to 300");
+            for line in ["declare c 1 1", "meter c 1", "mean c 1", "commit 1 c 1", "release 1 c 1"] {
+                assert_eq!(said(&line.replace(" c ", &format!(" {word} "))), message);
+            }
+        }
+        assert_eq!(said("commit 256 70000 1"), "producer: 256 is not a producer, 1 to 16");
+        assert_eq!(said("declare 70000 1"), "declare has 3 fields, consumer D A; 2 are given");
     }
 
     #[test]
@@ -245,8 +262,8 @@ mod tests {
         assert_eq!(records("close 65535").unwrap(), [0x43, 0x4C, 0xFF, 0xFF]);
         assert_eq!(records("close 0").unwrap(), [0x43, 0x4C, 0, 0]);
         assert_eq!(records("close 0000001").unwrap(), [0x43, 0x4C, 1, 0]);
-        assert_eq!(records("meter 255 4294967295").unwrap(), [0x4D, 0x54, 0xFF, 0xFF, 0xFF, 0xFF, 0xFF]);
-        assert_eq!(records("mean 255 4294967295").unwrap(), [0x41, 0x54, 0xFF, 0xFF, 0xFF, 0xFF, 0xFF]);
+        assert_eq!(records("meter 0 4294967295").unwrap(), [0x4D, 0x54, 0, 0xFF, 0xFF, 0xFF, 0xFF]);
+        assert_eq!(records("mean 65535 4294967295").unwrap(), [0x61, 0x74, 0xFF, 0xFF, 0xFF, 0xFF, 0xFF, 0xFF]);
         assert_eq!(records("test 0 9 9 9 1 4294967295").unwrap()[2..], [0, 9, 9, 9, 1, 0xFF, 0xFF, 0xFF, 0xFF]);
     }
 }

@@ -1,4 +1,4 @@
-//! The program's answers: standard output, standard error and the status of `text`, `lines`, `page`, `figures`, `offers`,
+//! The program's answers: standard output, standard error and the status of `text`, `lines`, `page`, `figures`, `narrow`, `offers`,
 //! `plant-offers`, `plants`, `outages` and `logs`.
 
 use std::fs::{self, File};
@@ -49,6 +49,8 @@ fn lines_of_a_journal_whose_reading_stops_have_a_message_beside_them() {
 #[test]
 fn a_text_gives_records_or_a_message() {
     answers(&["text"], b"year 720 120 4\r", YEAR, "", 0);
+    answers(&["text"], b"meter 65 1\nmeter 64 1", b"mt\x41\0\x01\0\0\0MT\x40\x01\0\0\0", "", 0);
+    answers(&["text"], b"meter 65536 1", b"", "line 1: consumer: 65536 is not a consumer, 1 to 300\n", 1);
     answers(&["text"], b"year 720 120 4\r# \0\r", b"", "line 2: byte 0 is no text\n", 1);
 }
 
@@ -66,6 +68,17 @@ fn figures_are_a_line_for_each_file() {
     answers(&["figures", "cases/j.txt", "/dev/null"], b"", b"0 0 0 2 0 0 0 0\n0 0 0 0 0 0 0 0\n", "", 0);
     let longer = YEAR.repeat(65_536);
     answers(&["figures"], &longer, b"65536 1 65535 0 458752 1 7 4\n", "", 0);
+}
+
+#[test]
+fn journals_for_64_consumers_follow_each_other_file_by_file() {
+    answers(&["narrow"], YEAR, &[b"0 7\n", YEAR].concat(), "", 0);
+    answers(&["narrow"], b"mt\x41\0\x01\0\0\0", b"18 0\n", "", 0);
+    answers(&["narrow", "cases/j.txt", "/dev/null"], b"", b"2 0\n0 0\n", "", 0);
+    let longer = YEAR.repeat(65_536);
+    answers(&["narrow"], &longer, &[b"0 458752\n", &longer[..]].concat(), "", 0);
+    let missing = "cases/none: No such file or directory (os error 2)\n";
+    answers(&["narrow", "cases/none"], b"", b"", missing, 1);
 }
 
 #[test]

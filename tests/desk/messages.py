@@ -1,7 +1,6 @@
 #!/usr/bin/env python3
-"""messages.py PROGRAM FOLDER FAILING: runs `yearbook` as a trader would, rightly and wrongly, and compares both outputs with what is written here.
-
-FOLDER holds the journals j, field, undeclared and silent, j as text and its listing; FAILING is a library to preload under which the second read of standard input fails."""
+"""messages.py PROGRAM FOLDER FAILING: runs `yearbook` as a trader would, rightly and wrongly, and compares both outputs with what is written here and
+in narrow.py; expect.py says what the arguments are."""
 import os
 import pathlib
 import signal
@@ -11,9 +10,10 @@ import tempfile
 import threading
 import time
 
-PROGRAM, FOLDER, FAILING = sys.argv[1], pathlib.Path(sys.argv[2]), sys.argv[3]
-J = (FOLDER / "j.journal").read_bytes()
-USAGE = "usage: yearbook [replies | run | page] [FILE] | yearbook help\n"
+sys.dont_write_bytecode = True
+from expect import FAILING, FOLDER, FULL, J, LONG, PROGRAM, USAGE, expect, file, tried
+from narrow import ABOVE_64, NARROW_SAID, narrow
+
 J_LISTING = (FOLDER / "j.listing").read_text()
 J_REPLIES = """\
 0 year 720 120 4: 0 accepted
@@ -54,31 +54,11 @@ Reads a journal of the firm capacity book, FILE or standard input, of at most 65
   replies         each record's place, call, number and meaning, and where the reading stopped
   run             the counts, where and why the reading stopped, and the first refused record with its number
   page            the printed close: a line of 36 columns for each declared consumer, 50 to a page
+  narrow          the same journal, for programs of 64 consumers, where no record has a mark for those above; no book is run
   help            these words
 A journal holds binary records; scripts/journal of the sources makes them from lines of text.
 Where the program ends by itself, standard error is empty exactly when all was read and accepted, and all that was asked for was written.
 """
-cases = 0
-
-
-def expect(name, words, output, said, given=b"", closed=None, to=subprocess.PIPE, preload=None, status=0):
-    """both outputs of a run with these words on a given input, bytes or a descriptor"""
-    global cases
-    cases += 1
-    environment = dict(os.environ, LD_PRELOAD=preload) if preload else None
-    source = {"input": given} if isinstance(given, bytes) else {"stdin": given}
-    run = subprocess.run(
-        [PROGRAM, *words], stdout=to, stderr=subprocess.PIPE, env=environment, preexec_fn=None if closed is None else lambda: os.close(closed), **source
-    )
-    got = (run.stdout or b"").decode(), run.stderr.decode()
-    # the status as a shell tells it, of a program that a signal ended too
-    told = run.returncode if run.returncode >= 0 else 128 - run.returncode
-    if got != (output, said) or told != status:
-        sys.exit(f"test-desk: FAILED, {name}, status {told}:\n{got[0]}--- standard error\n{got[1]}--- wanted\n{output}--- standard error\n{said}")
-
-
-def file(name):
-    return str(FOLDER / name)
 
 
 def run_lines(read, refused, end, first="no record refused"):
@@ -155,6 +135,16 @@ expect(
     run_lines(14, 1, "157: end of journal", "first refused record at byte 153: 16 close while a declared consumer has neither a reading nor a mean"),
     J_SILENT_SAID, J_SILENT,
 )
+for at_87, consumer in (J[87:89] + b"\x41", 0), (b"dm\x40\0", 0), (b"dm\x41\0", 65):
+    # a consumer that the record takes is its number, one that it does not is 0
+    given, width = J[:87] + at_87 + J[90:109], len(at_87) - 3
+    reply = "0 accepted" if consumer else "3 field outside its range"
+    expect(
+        f"replies to a record of {at_87}", ["replies"],
+        "".join(J_REPLIES.splitlines(True)[:5])
+        + f"87 declare {consumer} 1000 1100: {reply}\n{98 + width} declare 3 1000 1000: 0 accepted\n{109 + width} end of journal\n",
+        "" if consumer else f"yearbook: 1 of 7 records refused, the first at byte 87: {reply}\n", given,
+    )
 J_MEAN = J[:161] + b"AT" + J[163:]
 expect("J with a mean for the last reading", [], J_LISTING, J_SAID, J_MEAN)
 expect("replies to J with a mean for the last reading", ["replies"], J_REPLIES.replace("meter 3", "mean 3"), J_SAID, J_MEAN)
@@ -194,12 +184,11 @@ expect("the page of no bytes", ["page"], "", NO_PAGE)
 expect("the page of a year without a refusal", ["page", file("silent.journal")], "", NO_PAGE)
 expect("the page of a text", ["page", file("j.txt")], "", "yearbook: reading stopped at byte 0: 2 unknown mark\n" + NO_PAGE)
 
+narrow()
+
 # the longest input, and a longer one
-FULL = J + b"CL\0\0" * ((65536 - len(J)) // 4)
-assert len(FULL) == 65536
 FULL_SAID = f"yearbook: {1 + (65536 - len(J)) // 4} of {16 + (65536 - len(J)) // 4} records refused, the first at byte 123: 11 above the producer's efficient offers\n"
 expect("65,536 bytes", [], J_LISTING.replace("R 16 15 1", f"R {16 + (65536 - len(J)) // 4} 15 {1 + (65536 - len(J)) // 4}"), FULL_SAID, FULL)
-LONG = "yearbook: input longer than 65536 bytes, nothing read\n"
 expect("65,537 bytes", [], "X\n", LONG, FULL + b"C")
 expect("replies to 65,537 bytes", ["replies"], "X\n", LONG, FULL + b"C")
 expect(
@@ -213,42 +202,42 @@ expect("the page of 65,537 bytes", ["page"], "X\n", LONG, FULL + b"C")
 # words
 for word in ["help", "--help", "-h"]:
     expect(word, [word], HELP, "")
-for word in "replise", "runs", "pages":
+for word in "replise", "runs", "pages", "narrows":
     expect("an unknown word", [word, file("j.journal")], "", f"yearbook: {word}: unknown word\n" + USAGE)
     expect("a mistyped word alone", [word], "", f"yearbook: {word}: No such file or directory\n" + USAGE)
 expect("an unknown option", ["--version"], "", "yearbook: --version: unknown word\n" + USAGE)
 for words in (
     ["replies", file("j.journal"), "more"], ["run", file("j.journal"), "more"], ["page", file("j.journal"), "more"],
-    ["help", file("j.journal")], ["--help", "replies", "more"],
+    ["narrow", file("j.journal"), "more"], ["help", file("j.journal")], ["--help", "replies", "more"],
 ):
     expect("an argument too many", words, "", "yearbook: too many arguments\n" + USAGE)
 expect("three files", [file("j.journal"), "b", "c"], "", f"yearbook: {file('j.journal')}: unknown word\n" + USAGE)
 expect("too long a word", ["a" * 5000], "", "yearbook: first argument: File name too long\n")
-for word in "replies", "run", "page":
+for word in "replies", "run", "page", "narrow":
     expect("too long a file", [word, "a" * 5000], "", "yearbook: second argument: File name too long\n")
 
 # what cannot be read: nothing is printed, since a failed read is not the end of the input
 expect("a missing file", [file("missing")], "", f"yearbook: {file('missing')}: No such file or directory\n" + USAGE)
-for word in "replies", "run", "page":
+for word in "replies", "run", "page", "narrow":
     expect("a missing file behind a word", [word, file("missing")], "", f"yearbook: {file('missing')}: No such file or directory\n")
 expect("a folder", [str(FOLDER)], "", f"yearbook: {FOLDER}: Is a directory\n")
 expect("a folder on standard input", [], "", "yearbook: standard input: Is a directory\n", os.open(FOLDER, os.O_RDONLY))
 expect("no standard input", [], "", "yearbook: standard input: Bad file descriptor\n", subprocess.DEVNULL, closed=0)
-for words in [], ["replies"], ["run"], ["page"]:
+for words in [], ["replies"], ["run"], ["page"], ["narrow"]:
     expect("a read that fails in the middle", words, "", "yearbook: standard input: Input/output error\n", J, preload=FAILING)
 
 # what cannot be written
 with open("/dev/full", "wb") as full:
-    for words, said in ([], J_SAID), (["replies"], J_SAID), (["run"], J_SAID), (["page"], J_SAID), (["help"], ""):
+    for words, said in ([], J_SAID), (["replies"], J_SAID), (["run"], J_SAID), (["page"], J_SAID), (["narrow"], ""), (["help"], ""):
         expect("a full disk", words, "", said + "yearbook: standard output: No space left on device\n", J, to=full)
-for words in [], ["run"], ["page"]:
-    expect("no standard output", words, "", J_SAID + "yearbook: standard output: Bad file descriptor\n", J, closed=1)
+for words, said in ([], J_SAID), (["run"], J_SAID), (["page"], J_SAID), (["narrow"], ""):
+    expect("no standard output", words, "", said + "yearbook: standard output: Bad file descriptor\n", J, closed=1)
 
 # whoever reads leaves: the program ends, as a shell tells of one that the system ended, but what is wrong was said before
-for words in [], ["replies"], ["run"], ["page"]:
+for words, said in ([], J_SAID), (["replies"], J_SAID), (["run"], J_SAID), (["page"], J_SAID), (["narrow"], ""):
     piece, end = os.pipe()
     os.close(piece)
-    expect("a reader that leaves", words, "", J_SAID, J, to=end, status=128 + signal.SIGPIPE)
+    expect("a reader that leaves", words, "", said, J, to=end, status=128 + signal.SIGPIPE)
     os.close(end)
 
 # the manual's table of mistakes: J without its refused line, changed
@@ -262,6 +251,8 @@ TABLE = [
     ("the first 100 bytes", K[:100], "yearbook: reading stopped at byte 98: 1 record cut short\n"),
     ("the first 98 bytes, whole records", K[:98], ""),
     ("a page before the close", K[:-4], NO_PAGE, "page"),
+    ("65 in the byte at 89", K[:89] + b"\x41" + K[90:], SAID.format("3 of 15", "87: 3 field outside its range")),
+    ("declare 65 for 3, and narrow", K[:98] + ABOVE_64 + K[109:], NARROW_SAID.format("98: 18 mark for consumers above 64"), "narrow"),
     (
         "the 21st byte lost", K[:20] + K[21:],
         SAID.format("1 of 2", "7: 3 field outside its range") + "yearbook: reading stopped at byte 33: 2 unknown mark\n",
@@ -269,7 +260,7 @@ TABLE = [
 ]
 manual = pathlib.Path("docs/MANUAL.md").read_text()
 for name, journal, said, *words in TABLE:
-    cases += 1
+    tried.append(name)
     run = subprocess.run([PROGRAM, *words], input=journal, stdout=subprocess.PIPE, stderr=subprocess.PIPE)
     if run.stderr.decode() != said or not all(line in manual for line in said.splitlines()):
         sys.exit(f"test-desk: FAILED, {name}: {run.stderr.decode()}, in the manual or not")
@@ -279,8 +270,8 @@ LINE = 'if said=$("$0" "$1" 2>&1 >"$2") && [ -z "$said" ]; then exit 0; else exi
 with tempfile.TemporaryDirectory() as folder:
     for journal, status in ("silent.journal", 0), ("j.journal", 1), ("missing", 1):
         for shell in "sh", "bash":
-            cases += 1
+            tried.append(f"{shell} on {journal}")
             run = subprocess.run([shell, "-c", LINE, PROGRAM, file(journal), folder + "/listing"])
             if run.returncode != status:
                 sys.exit(f"test-desk: FAILED, {shell} on {journal}: status {run.returncode}")
-print(f"test-desk: passed, {cases} cases")
+print(f"test-desk: passed, {len(tried)} cases")

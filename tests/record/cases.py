@@ -4,7 +4,9 @@ With the word `all`, every pair of bytes stands where otherwise only the marks t
 import sys
 
 POWER, ENERGY, MINUTES = 3_000_000, 4_000_000_000, 1_052_640
-UNIT, PRODUCER, CONSUMER, COMPONENT = (1, 1, 48), (1, 1, 16), (1, 1, 64), (1, 0, 2)
+UNIT, PRODUCER, COMPONENT = (1, 1, 48), (1, 1, 16), (1, 0, 2)
+# a consumer of a record that takes the first 64, and of one for those above
+CONSUMER, ABOVE_64 = (1, 1, 64), (2, 65, 300)
 
 # call: mark, then width, least and greatest value of each field
 TABLE = {
@@ -22,10 +24,15 @@ TABLE = {
     "meter": (b"\x4d\x54", [CONSUMER, (4, 0, POWER)]),
     "close": (b"\x43\x4c", [(2, 1, 2500)]),
     "mean": (b"\x41\x54", [CONSUMER, (4, 0, POWER)]),
+    "declare above 64": (b"\x64\x6d", [ABOVE_64, (4, 0, POWER), (4, 0, POWER)]),
+    "commit above 64": (b"\x63\x6d", [PRODUCER, ABOVE_64, (4, 1, POWER)]),
+    "release above 64": (b"\x72\x6c", [PRODUCER, ABOVE_64, (4, 1, POWER)]),
+    "meter above 64": (b"\x6d\x74", [ABOVE_64, (4, 0, POWER)]),
+    "mean above 64": (b"\x61\x74", [ABOVE_64, (4, 0, POWER)]),
 }
 
 # the marks that document 02 gives to records of requests, unknown until the request has landed
-LATER = ["646d", "636d", "726c", "6d74", "6174", "5947", "4c56", "5450"]
+LATER = ["5947", "4c56", "5450"]
 
 # values in range of each call; the second unit is of kind 2, which alone uses PPR
 BASE = {
@@ -40,6 +47,11 @@ BASE = {
     "meter": [[9, 900]],
     "close": [[890]],
     "mean": [[6, 300]],
+    "declare above 64": [[65, 1000, 1100]],
+    "commit above 64": [[1, 300, 501]],
+    "release above 64": [[1, 256, 1]],
+    "meter above 64": [[255, 900]],
+    "mean above 64": [[257, 300]],
 }
 
 
@@ -120,6 +132,23 @@ def readings():
     yield record("test", [1, 0, 0, 4, 97], [750_001] * 97)
 
 
+def consumers():
+    """Every consumer of a field of one byte, and of two those about the ends of the range, those whose low byte is a consumer of one byte, and those
+    whose bytes are swapped."""
+    for call, (_, fields) in TABLE.items():
+        for i, field in enumerate(fields):
+            if field == CONSUMER:
+                numbers = range(256)
+            elif field == ABOVE_64:
+                low = [1, 2, 63, 64, 65, 66, 127, 128, 254, 255]
+                numbers = sorted({0, *low, *range(252, 305), *(256 + b for b in low), *(512 + b for b in low), *(256 * b for b in low)})
+            else:
+                continue
+            for number in numbers:
+                values = BASE[call][0]
+                yield record(call, values[:i] + [number] + values[i + 1 :])
+
+
 def replies():
     """The examples of the table of numbered replies, as far as they are bytes of a journal."""
     yield b"\x59"
@@ -160,16 +189,18 @@ def case_j():
 
 
 def any_bytes():
-    """Each mark before bytes of a generator, of lengths around that of its record."""
+    """Each mark before bytes of a generator, of lengths around that of its record; those for consumers above 64 behind the others."""
     s = 1
-    for turn in range(40):
-        for call in TABLE:
-            size = len(record(call, BASE[call][0]))
-            body = bytearray()
-            while len(body) < size + turn % 9 - 4:
-                s = (s * 1_103_515_245 + 12_345) % 2**31
-                body.append(s >> 16 & 0xFF)
-            yield TABLE[call][0] + bytes(body)
+    above_64 = [call for call in TABLE if call.endswith(" above 64")]
+    for calls in [call for call in TABLE if call not in above_64], above_64:
+        for turn in range(40):
+            for call in calls:
+                size = len(record(call, BASE[call][0]))
+                body = bytearray()
+                while len(body) < size + turn % 9 - 4:
+                    s = (s * 1_103_515_245 + 12_345) % 2**31
+                    body.append(s >> 16 & 0xFF)
+                yield TABLE[call][0] + bytes(body)
 
 
 def every_mark():
@@ -197,7 +228,7 @@ def items(marks):
     for b in range(256):
         yield bytes([b])
     yield from marks()
-    for group in (fields_at_their_ends, truncations, with_more_behind, kinds_and_flags, readings, replies, case_j, any_bytes):
+    for group in (fields_at_their_ends, truncations, with_more_behind, kinds_and_flags, readings, replies, case_j, any_bytes, consumers):
         yield from group()
 
 

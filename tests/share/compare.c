@@ -4,8 +4,9 @@
  * byte of both buffers, and the bytes around them.
  *
  * The second implementation works with 128-bit products and ranks: of the
- * units left over, a participant gets one if fewer participants than there are
- * units come before it.
+ * units left over, the participants that come first get one each. Fails if
+ * some kind of answer, or a number of weights from 1 to 300 with its amounts,
+ * was never met.
  *
  * usage: compare [SEED]
  */
@@ -19,6 +20,8 @@
 __extension__ typedef unsigned __int128 u128;
 
 #define SEEDED 200000
+
+_Static_assert(SHARE_COUNT_MAX == 300, "a division takes 1 to 300 weights");
 
 #define SURPLUS 64 /* most bytes behind the last amount */
 #define CANARY 32  /* least bytes around a buffer */
@@ -69,6 +72,9 @@ static const char *const lines[LINES] = {
 
 static unsigned long met[LINES];
 
+/* How many divisions of so many weights were accepted. */
+static unsigned long divided[SHARE_COUNT_MAX + 1];
+
 static int line_of(int why, uint64_t left)
 {
     switch (why) {
@@ -107,11 +113,26 @@ struct answer {
     uint64_t amount[SHARE_COUNT_MAX];
 };
 
+/* The remainder of a participant's division. */
+struct rest {
+    uint64_t rest;
+    size_t participant;
+};
+
+/* The larger remainder comes first, of equal ones the lower participant. */
+static int by_rest(const void *one, const void *other)
+{
+    const struct rest *a = one, *b = other;
+    if (a->rest != b->rest)
+        return a->rest > b->rest ? -1 : 1;
+    return a->participant < b->participant ? -1 : 1;
+}
+
 static struct answer divide(const struct input *in)
 {
     struct answer ans = {0};
     size_t n = in->weights_len / SHARE_WEIGHT_SIZE;
-    uint64_t rest[SHARE_COUNT_MAX];
+    struct rest rests[SHARE_COUNT_MAX];
     u128 sum = 0, whole = 0;
 
     if (in->total > SHARE_TOTAL_MAX)
@@ -143,16 +164,13 @@ static struct answer divide(const struct input *in)
     for (size_t i = 0; i < n; i++) {
         u128 product = (u128)in->total * get_weight(in->weights + i * SHARE_WEIGHT_SIZE);
         ans.amount[i] = (uint64_t)(product / sum);
-        rest[i] = (uint64_t)(product % sum);
+        rests[i] = (struct rest){(uint64_t)(product % sum), i};
         whole += ans.amount[i];
     }
     ans.left = (uint64_t)(in->total - whole);
-    for (size_t i = 0; i < n; i++) {
-        size_t rank = 0;
-        for (size_t j = 0; j < n; j++)
-            rank += rest[j] > rest[i] || (rest[j] == rest[i] && j < i);
-        ans.amount[i] += rank < ans.left;
-    }
+    qsort(rests, n, sizeof rests[0], by_rest);
+    for (size_t rank = 0; rank < ans.left; rank++)
+        ans.amount[rests[rank].participant]++;
     return ans;
 }
 
@@ -252,6 +270,8 @@ static struct answer compare(const struct input *in)
     same(in, "weights", w, weights_after, weights, sizeof weights);
     same(in, "amounts", a, amounts_after, amounts, sizeof amounts);
     met[line_of(ans.why, ans.left)]++;
+    if (ans.number == SHARE_OK)
+        divided[in->weights_len / SHARE_WEIGHT_SIZE]++;
     return ans;
 }
 
@@ -333,7 +353,7 @@ static void compare_edges(void)
         SHARE_TOTAL_MAX, SHARE_TOTAL_MAX + 1, UINT64_MAX,
     };
     static const size_t counts[] = {
-        0, 1, 2, 3, SHARE_COUNT_MAX - 1, SHARE_COUNT_MAX, SHARE_COUNT_MAX + 1,
+        0, 1, 2, 3, 63, 64, 65, 255, 256, SHARE_COUNT_MAX - 1, SHARE_COUNT_MAX, SHARE_COUNT_MAX + 1,
     };
 
     for EACH(t, totals)
@@ -401,6 +421,7 @@ static size_t random_count(void)
     case 1: case 2: return SHARE_COUNT_MAX;
     case 3: return one_in(4) ? 0 : 2;
     case 4: return one_in(4) ? SHARE_COUNT_MAX + 1 + below(2) : 3;
+    case 5: case 6: case 7: case 8: return 1 + below(64);
     default: return 1 + below(SHARE_COUNT_MAX);
     }
 }
@@ -451,6 +472,12 @@ int main(int argc, char **argv)
     if (missing) {
         printf("compare: FAILED: a line of the above was never met\n");
         return 1;
+    }
+    for (size_t n = 1; n <= SHARE_COUNT_MAX; n++) {
+        if (divided[n] == 0) {
+            printf("compare: FAILED: no total was divided among %zu\n", n);
+            return 1;
+        }
     }
     printf("compare: %lu inputs, no difference\n", inputs);
     return 0;

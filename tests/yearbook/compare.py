@@ -1,40 +1,38 @@
 #!/usr/bin/env python3
 """compare.py PROGRAM REFERENCE STORED RANDOM DIFFERENT: compares what the program prints of every journal in STORED and RANDOM with what the
-second implementation prints, without a word and with the words `replies`, `page` and `run`, on standard output and on standard error.
+second implementation prints, without a word and with the words `replies`, `page`, `run` and `narrow`, on standard output and on standard error.
 
 A journal is given as FILE and on standard input in turn, from word to word; a stored one also the other way round. A journal that differs is
 named with the first line that differs and copied to DIFFERENT. Prints how often each number was met in the random journals, how many of them
-have a page, have two, and have none, refused with 4, and how many have their first refusal where, together with how the reading ended. A journal
-whose first record is refused has its first refusal at place 0, even where it is the only record read; one that is too long has none of these pairs.
-Tells too how many units of each kind the random journals list, and how many of them have another offer than in whole kW at each step.
-Fails if a journal differs, a number from 1 to 14 or number 16 was never met, one of the three or of the twelve pairs never occurred, or no unit of a
-kind has another offer."""
+have how many pages, and have none, refused with 4, how many have their first refusal where, together with how the reading ended, and how many the
+converter accepted, and refused with which number. A journal whose first record is refused has its first refusal at place 0, even where it is the
+only record read; one that is too long has nothing of this. Tells too how many units of each kind the random journals list, and how many of them have
+another offer than in whole kW at each step. Fails if a journal differs, anything that occurrences.py names never occurred, or no unit of a kind has
+another offer."""
 import collections
 import concurrent.futures
 import io
 import itertools
 import os
 import pathlib
-import re
 import shutil
 import subprocess
 import sys
 
-NUMBERS = *range(1, 15), 16
+sys.dont_write_bytecode = True
+from occurrences import ENDS, FIRST_REFUSALS, FOREIGN, KINDS, LIMIT, NARROW, NUMBERS, PAGES, TAKEN, occurrences
+
 BATCH = 50
-PAGES = "a page", "two pages", "a page refused with 4"
-FIRST_REFUSALS = "no refusal", "first refusal at place 0", "first refusal in the middle", "first refusal as the last record read"
-ENDS = "end of journal", "stop 1", "stop 2"
-PAIRS = [f"{first}, {end}" for first in FIRST_REFUSALS for end in ENDS]
 OFFERS = [f"an offer of kind {kind}" for kind in range(1, 9)]
 CHANGED = [f"{offer} that A6 changed" for offer in OFFERS]
 
 
 def expected(reference, journals):
-    """listing, replies, findings, page, findings with it and run of each journal: the parts follow each other, each behind a line with its length"""
+    """listing, replies, findings, page, findings with it, run, journal for 64 consumers and findings with it, of each journal: the parts follow each
+    other, each behind a line with its length"""
     run = subprocess.run([reference, "desk", *journals], stdout=subprocess.PIPE, check=True)
     source = io.BytesIO(run.stdout)
-    parts = [[source.read(int(source.readline())) for _ in range(6)] for _ in journals]
+    parts = [[source.read(int(source.readline())) for _ in range(8)] for _ in journals]
     if source.read():
         sys.exit("test-yearbook: FAILED, the second implementation printed more parts than journals have")
     return parts
@@ -56,13 +54,14 @@ def first_difference(ours, theirs):
     return None
 
 
-def differences(program, journal, as_file, listing, replies, findings, page, page_findings, run):
-    """what differs, in words; `as_file` tells whether listing and page, and not replies and run, are asked with FILE"""
+def differences(program, journal, as_file, listing, replies, findings, page, page_findings, run, narrow, narrow_findings):
+    """what differs, in words; `as_file` tells whether listing, page and narrow, and not replies and run, are asked with FILE"""
     for word, file, output, said in (
         ((), as_file, listing, findings),
         (("replies",), not as_file, replies, findings),
         (("page",), as_file, page, page_findings),
         (("run",), not as_file, run, findings),
+        (("narrow",), as_file, narrow, narrow_findings),
     ):
         asked = " ".join(["yearbook", *word, "FILE" if file else "<FILE"])
         status, out, err = printed(program, word, journal, file)
@@ -71,28 +70,6 @@ def differences(program, journal, as_file, listing, replies, findings, page, pag
         for name, ours, theirs in (("standard output", out, output), ("standard error", err, said)):
             if ours != theirs:
                 yield f"{asked}: {name}: {first_difference(ours, theirs)}"
-
-
-def pages(page, page_findings):
-    """which of PAGES a journal has"""
-    headings = page.count(b"PAGE ")
-    return [name for name, holds in zip(PAGES, (headings > 0, headings == 2, b": no page, " in page_findings)) if holds]
-
-
-def pair(replies):
-    """which of PAIRS a journal is, from the line of each record and that of the end; none where it is too long"""
-    *records, end = replies.decode().splitlines()
-    if end == "X":
-        return []
-    refused = [": 0 " not in line for line in records]
-    if not any(refused):
-        first = 0
-    elif refused[0]:
-        first = 1
-    else:
-        first = 3 if refused.index(True) == len(refused) - 1 else 2
-    stop = re.fullmatch(r"\d+ stop: (\d) .*", end)
-    return [f"{FIRST_REFUSALS[first]}, {ENDS[int(stop[1]) if stop else 0]}"]
 
 
 def offers(reference, journals):
@@ -105,15 +82,15 @@ def offers(reference, journals):
 
 
 def compare(program, reference, journals, both_ways):
-    """what differs, by journal, and how often each number was met and each of PAGES, PAIRS, OFFERS and CHANGED occurred"""
+    """what differs, by journal, and how often each of KINDS, OFFERS and CHANGED occurred"""
     different, met = {}, collections.Counter()
     for place, (journal, parts) in enumerate(zip(journals, expected(reference, journals))):
         ways = (True, False) if both_ways else (place % 2 == 0,)
         found = [line for way in ways for line in differences(program, journal, way, *parts)]
         if found:
             different[journal] = found
-        met.update(map(int, re.findall(rb": (\d+) ", parts[1])))
-        met.update(pages(*parts[3:5]) + pair(parts[1]))
+        listing, replies, _, page, page_findings, _, _, narrow_findings = parts
+        met.update(occurrences(pathlib.Path(journal).read_bytes(), listing, replies, page, page_findings, narrow_findings))
     met.update(offers(reference, journals))
     return different, met
 
@@ -143,9 +120,12 @@ def main():
     for number in NUMBERS:
         print(f"number {number:2}: {met[number]} times")
     print(", ".join(f"{name}: {met[name]} journals" for name in PAGES))
+    print(", ".join(f"{name}: {met[name]} journals" for name in (*NARROW, LIMIT)))
+    for name, kinds in ("consumers at the ends of a form's range", TAKEN), ("consumers that a form does not take", FOREIGN):
+        print(f"{name}, in each of the five calls: at least {min(met[kind] for kind in kinds)} records each")
     for first in FIRST_REFUSALS:
         print(f"{first}:", ", ".join(f"{met[f'{first}, {end}']} with {end}" for end in ENDS))
-    missing = [item for item in (*NUMBERS, *PAGES, *PAIRS, *CHANGED) if not met[item]]
+    missing = [item for item in (*KINDS, *CHANGED) if not met[item]]
     if missing:
         print("test-yearbook: FAILED, never met:", "; ".join(map(str, missing)))
     if wrong:
@@ -153,7 +133,7 @@ def main():
     if missing or wrong:
         sys.exit(1)
     kinds = ", ".join(f"{met[changed]} of {met[offer]} of kind {kind}" for kind, (offer, changed) in enumerate(zip(OFFERS, CHANGED), 1))
-    compared = f"{count[True]} stored journals and {count[False]} random ones, listing, replies, page, run and standard error of each"
+    compared = f"{count[True]} stored journals and {count[False]} random ones, listing, replies, page, run, narrow and standard error of each"
     print(f"test-yearbook: passed, {compared}; offers of the random ones that A6 changed: {kinds}")
 
 

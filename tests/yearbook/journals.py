@@ -4,54 +4,12 @@
 Case J (JOURNAL) cut behind each byte, with unknown marks and with odd counts; a text in place of a journal; fields that are all 0 and
 all 255; the largest inputs of 65,536 bytes, whole and cut, and longer ones; a listing with every line there can be, and the longest replies;
 printed closes about the end of a page, and those with the widest figures; the first refusal at each place, with each end behind it; means in place of
-readings, and one silent consumer at each end and in the middle, with the others within their limit and above it."""
-import struct
+readings, and one silent consumer at each end and in the middle, with the others within their limit and above it; and what consumers.py has."""
 import sys
 
-LIMIT = 65536
-# the bytes behind each mark, with no reading
-FIELDS = {b"YR": 5, b"UN": 24, b"TS": 5, b"AV": 18, b"DM": 9, b"FX": 4, b"CM": 6, b"RL": 6, b"MT": 5, b"CL": 2, b"AT": 5}
-
-
-def year():
-    return b"YR" + struct.pack("<HHB", 720, 120, 4)
-
-
-def unit(number, producer, kind=1, flags=17, pic=0):
-    return b"UN" + struct.pack("<BBBBIIIII", number, producer, kind, flags, pic, 0, 0, 0, 0)
-
-
-def test(number, readings, tc=4, ending=0, component=0, count=None):
-    count = len(readings) if count is None else count
-    return b"TS" + struct.pack("<BBBBB", number, component, ending, tc, count) + struct.pack(f"<{len(readings)}I", *readings)
-
-
-def availability(number):
-    return b"AV" + struct.pack("<BBIIII", number, 0, 1, 0, 0, 0)
-
-
-def declare(consumer, d, a):
-    return b"DM" + struct.pack("<BII", consumer, d, a)
-
-
-def fix(dmp):
-    return b"FX" + struct.pack("<I", dmp)
-
-
-def commit(producer, consumer, q):
-    return b"CM" + struct.pack("<BBI", producer, consumer, q)
-
-
-def meter(consumer, dreal):
-    return b"MT" + struct.pack("<BI", consumer, dreal)
-
-
-def close(p):
-    return b"CL" + struct.pack("<H", p)
-
-
-def mean(consumer, kw):
-    return b"AT" + struct.pack("<BI", consumer, kw)
+sys.dont_write_bytecode = True
+from consumers import journals_of_300
+from records import FIELDS, LIMIT, availability, close, closed, commit, declare, filled, fix, mean, meter, test, unit, year
 
 
 def widest():
@@ -65,13 +23,6 @@ def widest():
     calls += [commit(p, 1 + p % 64, 3000000) for p in range(1, 17) for _ in range(3)]
     calls += [meter(c, 3000000 if c % 3 else 0) for c in range(1, 65)]
     return b"".join(calls) + close(2500)
-
-
-def closed(declared, dmp, readings, p):
-    """a year that closes, from D and A by consumer, the last one declared first, and from readings by consumer"""
-    calls = [declare(consumer, d, a) for consumer, (d, a) in reversed(list(declared.items()))]
-    calls += [fix(dmp)] + [meter(consumer, dreal) for consumer, dreal in readings.items()]
-    return year() + b"".join(calls) + close(p)
 
 
 def closes():
@@ -102,11 +53,6 @@ def first_refusals():
     ):
         for end, more in ("end", b""), ("stop-1", meter(1, 1)[:-1]), ("stop-2", b"ZZ" + range_3 + opened):
             yield f"first-refusal-{where}-{end}", start + more
-
-
-def filled(start, record, size):
-    """start and records behind it up to a size, the last one cut"""
-    return (start + record * ((size - len(start)) // len(record) + 1))[:size]
 
 
 def same_bytes(byte):
@@ -170,6 +116,7 @@ def journals(j):
     yield from first_refusals()
     yield from silent_consumers()
     yield from means_of_j(j)
+    yield from journals_of_300(j)
     yield "too-long", filled(widest()[:-4], meter(1, 1), LIMIT + 1)
     yield "too-long-closed", filled(widest(), close(1), LIMIT + 1)
     yield "far-too-long", filled(year(), year(), 3 * LIMIT)

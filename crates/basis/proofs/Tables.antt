@@ -3,7 +3,10 @@ use mathlib.Core.Path.{◌≡◌, refl, sym, ap, ◌∙◌}
 use mathlib.Core.List.{List, map}
 use Prim.Native.Nat.{ℕ, zero, suc, ◌<◌}
 use native.Mathlib.Nat.{zero-add}
+use native.Mathlib.Omega.{arith}
 use lib.ListN.{length, get_or, length-map, get_or-map}
+use Rattle.std.specs.List.{zip}
+use Rattle.std.proofs.lemmas.Slice.Zip.{get_or-zip, length-zip}
 use Rattle.std.proofs.lemmas.List.FromFn.{length-map-range_with_len, get_or-map-range_with_len, fill_by_all}
 use Rattle.basis.specs.Sums.{sum, sum_up}
 use Rattle.basis.specs.Tables.{tab, tab_from}
@@ -36,6 +39,14 @@ module _ {A : Type 0} where
 pub tab-map : {A B : Type 0} (f : A → B) (xs : List A) (d : A) (n : ℕ) → length xs ≡ n → tab (λ k. f (get_or xs k d)) n ≡ map f xs
 tab-map f xs d n e =
     sym (tab_from_places (λ k. f (get_or xs k d)) (map f xs) n (f d) (length-map xs f ∙ e) (λ k h. get_or-map f xs k d))
+
+-- two lists of as many elements under a function of both, as a table
+pub tab-zip : {A B C : Type 0} (f : A → B → C) (xs : List A) (ys : List B) (d : A) (e : B) (n : ℕ) → length xs ≡ n → length ys ≡ n → tab (λ k. f (get_or xs k d) (get_or ys k e)) n ≡ map (λ (p : A × B). f p.0 p.1) (zip xs ys)
+tab-zip f xs ys d e n a b =
+    sym
+    (tab_from_places (λ k. f (get_or xs k d) (get_or ys k e)) (map (λ p. f p.0 p.1) (zip xs ys)) n (f d e)
+    (length-map (zip xs ys) (λ p. f p.0 p.1) ∙ omega (arith, length-zip xs ys))
+    (λ k h. get_or-map (λ p. f p.0 p.1) (zip xs ys) k (d, e) ∙ ap (λ p. f p.0 p.1) (get_or-zip xs ys k (d, e) (omega arith) (omega arith))))
 
 pub sum-tab : (f : ℕ → ℕ) (n : ℕ) → sum (tab f n) ≡ sum_up f n
 sum-tab f n =

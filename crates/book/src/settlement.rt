@@ -4,9 +4,9 @@ ghost use Rattle.quantities.specs.Refusals.{met};
 ghost use Rattle.state.specs.State.{reply_with, replied};
 ghost use Rattle.gathering.specs.Units.{unit_of};
 ghost use Rattle.decision.specs.Consumers.{consumer_of};
-ghost use Rattle.decision.specs.ContractCalls.{contract_of};
+ghost use Rattle.decision.specs.ContractCalls.{producer_balance, contract_of};
 
-use decision::{consumer_answer, contract_answer};
+use decision::{consumer_answer, contract_answer_by, producer_balance};
 use gathering::unit_answer;
 use quantities::Refusal;
 use state::{Book, consumer_place, unit_place};
@@ -36,6 +36,32 @@ pub fn settle_consumer(book: &mut Book, consumer: u32, act: ConsumerCall) -> Res
     Ok(())
 }
 
+// A call of a contract, with the sum of the producer's balances, which a run keeps: for our own crates and not for buyers.
+pub fn settle_contract_by(
+    book: &mut Book,
+    producer: u32,
+    consumer: u32,
+    act: ContractCall,
+    total: u64,
+) -> Result<(), Refusal>
+    requires { total ≡ producer_balance book.old.balances producer }
+    ensures { reply_with (met result) book.new ≡ contract_of book.old producer consumer act }
+{
+    let declaration = book.consumers[consumer_place(consumer)].declaration;
+    let settled = contract_answer_by(
+        producer,
+        consumer,
+        act,
+        book.stage,
+        declaration,
+        total,
+        &book.balances,
+        &book.limits,
+    )?;
+    book.balances[settled.cell] = settled.balance;
+    Ok(())
+}
+
 // A call of a contract. A buyer passes plain numbers.
 pub fn settle_contract(
     book: &mut Book,
@@ -45,18 +71,8 @@ pub fn settle_contract(
 ) -> Result<(), Refusal>
     ensures { reply_with (met result) book.new ≡ contract_of book.old producer consumer act }
 {
-    let declaration = book.consumers[consumer_place(consumer)].declaration;
-    let settled = contract_answer(
-        producer,
-        consumer,
-        act,
-        book.stage,
-        declaration,
-        &book.balances,
-        &book.limits,
-    )?;
-    book.balances[settled.cell] = settled.balance;
-    Ok(())
+    let total = producer_balance(&book.balances, producer);
+    settle_contract_by(book, producer, consumer, act, total)
 }
 
 // The book after a call of a unit, and below of a consumer and of a contract.

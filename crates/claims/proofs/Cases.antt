@@ -12,7 +12,7 @@ use Rattle.table.specs.Records.{parts_of, call_of, readings_size, table_of, form
 use Rattle.table.specs.Fields.{encode, decode}
 use Rattle.table.specs.Ranges.{uses_of, unused_zero, rest_in_range, fields_number, call_number}
 use Rattle.record.specs.Reading.{read_call, read_marked, read_at, part_of}
-use Rattle.close.specs.Close.{reals_of, all_adjusted, adjusted_in, surpluses_in, charges_in, credits_of, undistributed_of, all_heard, close_number_by, figures_of, closed, close_of}
+use Rattle.close.specs.Close.{reals_of, all_adjusted, adjusted_in, surpluses_in, charges_of, charges_in, credits_of, undistributed_of, all_heard, close_number_by, figures_of, closed, close_of}
 use Rattle.gathering.specs.Units.{test_rest, availability_rest, unit_rest, tested_unit, available_unit, unit_after, unit_number, after_unit, unit_of}
 use Rattle.decision.specs.Consumers.{consumer_rest, consumer_after, consumer_number, after_consumer, consumer_of}
 use Rattle.decision.specs.ContractCalls.{contract_rest, balance_after, contract_number, after_contract, contract_of}
@@ -28,7 +28,7 @@ use Rattle.listing.specs.Listing.{firm_lines, closed_lines, stage_lines, listing
 use Rattle.claims.specs.Cases.{Thirteen, journal_with, run_j, run_above, equal_readings}
 
 pub thirteen : Thirteen
-unfolding number bytes_of all_bytes_of sum_up greatest tab_from whole_parts remainders first_place_of largest give shares division_number divided availability_of times_c year_sum efficient_offers offer_in_watts firm_offer measured_of after_test test_of parts_of call_of readings_size encode decode table_of form_of mark_at uses_of unused_zero rest_in_range fields_number call_number read_call read_marked read_at part_of reals_of all_adjusted adjusted_in surpluses_in charges_in credits_of undistributed_of all_heard close_number_by figures_of closed close_of test_rest availability_rest unit_rest tested_unit available_unit unit_after unit_number after_unit unit_of consumer_rest consumer_after consumer_number after_consumer consumer_of contract_rest balance_after contract_number after_contract contract_of offers_of flags_of efficient_in limit_of limits_of weights_of with_demands fix_number_by fixed fix_of year_number_by begun year_of after_all accepted_by fresh_book step_of started run_from run_of joined_from unit_line unit_lines owners_of owns producer_line producer_lines demand_line demand_lines settlement_line settlement_lines firm_lines closed_lines stage_lines listing_of listed_of listed_in digits decimal amount_of line_of journal_with run_j run_above equal_readings
+unfolding number bytes_of all_bytes_of sum_up greatest tab_from whole_parts remainders first_place_of largest give shares division_number divided availability_of times_c year_sum efficient_offers offer_in_watts firm_offer measured_of after_test test_of parts_of call_of readings_size encode decode table_of form_of mark_at uses_of unused_zero rest_in_range fields_number call_number read_call read_marked read_at part_of reals_of all_adjusted adjusted_in surpluses_in charges_of charges_in credits_of undistributed_of all_heard close_number_by figures_of closed close_of test_rest availability_rest unit_rest tested_unit available_unit unit_after unit_number after_unit unit_of consumer_rest consumer_after consumer_number after_consumer consumer_of contract_rest balance_after contract_number after_contract contract_of offers_of flags_of efficient_in limit_of limits_of weights_of with_demands fix_number_by fixed fix_of year_number_by begun year_of after_all accepted_by fresh_book step_of started run_from run_of joined_from unit_line unit_lines owners_of owns producer_line producer_lines demand_line demand_lines settlement_line settlement_lines firm_lines closed_lines stage_lines listing_of listed_of listed_in digits decimal amount_of line_of journal_with run_j run_above equal_readings
 thirteen =
     record {
       letter_u = refl;

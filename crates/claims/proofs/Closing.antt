@@ -21,13 +21,13 @@ use Rattle.state.specs.declared.kept.Stage.TheVariants.{Firm}
 use Rattle.state.specs.declared.kept.Consumer.{Consumer}
 use Rattle.state.specs.declared.kept.Book.{Book}
 use Rattle.fix.specs.Fix.{weights_of}
-use Rattle.close.specs.Close.{reals_of, adjusted_of, adjusted_in, surplus_by, surpluses_in, charges_in, credits_of, undistributed_of, close_rest, close_number, close_number_by, figures_of, closed}
+use Rattle.close.specs.Close.{reals_of, adjusted_of, adjusted_in, surplus_by, surpluses_in, charges_in, charged_rest, credits_of, undistributed_of, close_rest, close_number, close_number_by, figures_of, closed}
 use Rattle.close.proofs.Bounds.{AcceptedClose}
-use Rattle.close.proofs.CloseLaws.{charges_small, accepted-close}
+use Rattle.close.proofs.CloseLaws.{accepted-close}
 use Rattle.book.specs.Lists.{Event}
 use Rattle.claims.specs.History.{is_a, last_that, begun_in, fixed_in, closed_in, dmp_in, price_in, declared_in}
 use Rattle.claims.specs.Figures.{demand_in, declaration_by, consumer_in, consumers_in, adjusted_demands_in, positive_adjustments_in, all_charges_in, all_credits_in, undistributed_in}
-use Rattle.claims.specs.Refusals.{all_heard_in, number_in}
+use Rattle.claims.specs.Refusals.{all_heard_in, charges_at, number_in}
 use Rattle.claims.proofs.SameFigures.{last_this, hours_as_before, fixed_as_before, dmp_as_before}
 use Rattle.claims.proofs.Stages.{firm_is, Passed, accepted_shows, behind}
 use Rattle.claims.proofs.Kept.{Kept}
@@ -50,9 +50,9 @@ module _ (h : List Event) (b : Book) (k : Kept h b) (p : ℕ) (readings : List �
   abbrev close : Event
   close = record { call = call.Close p; readings = readings }
 
-  shown : Passed (call.Close p) [] Firm b.stage (close_rest b.dmp (sum (weights_of b.consumers)) (reals_of b.consumers))
+  shown : Passed (call.Close p) [] Firm b.stage (close_rest p b.dmp (sum (weights_of b.consumers)) (reals_of b.consumers) b.consumers)
   unfolding close_number_by
-  shown = accepted_shows (call.Close p) [] Firm b.stage (close_rest b.dmp (sum (weights_of b.consumers)) (reals_of b.consumers)) z
+  shown = accepted_shows (call.Close p) [] Firm b.stage (close_rest p b.dmp (sum (weights_of b.consumers)) (reals_of b.consumers) b.consumers) z
 
   was_firm : (closed_in h ≡ false) × (fixed_in h ≡ true)
   was_firm = firm_is (closed_in h) (fixed_in h) (begun_in h) (sym k.timing.stage_kept ∙ shown.stage)
@@ -98,7 +98,7 @@ module _ (h : List Event) (b : Book) (k : Kept h b) (p : ℕ) (readings : List �
       ap (λ c. undistributed_of (sum c) (surpluses_in b.dmp b.consumers)) charges_now
       ∙ ap (undistributed_of (sum (all_charges_in (close ∷ h)))) surpluses_now
 
-  -- the price is in range, and so is every adjusted demand
+  -- the price is in range, and so are every adjusted demand and the charges
   shown_close : AcceptedClose b.dmp b.consumers p
   shown_close = accepted-close b.stage b.dmp b.consumers p z
 
@@ -107,7 +107,7 @@ module _ (h : List Event) (b : Book) (k : Kept h b) (p : ℕ) (readings : List �
   count = ap length k.consumers.consumers_kept ∙ length-tab (λ i. consumer_in h (suc i)) consumers
 
   all_small : sum (charges_in p b.dmp b.consumers) ≤ greatest_total
-  all_small = charges_small b.dmp b.consumers p shown_close count
+  all_small = shown_close.charged
 
   demand_small : (i : ℕ) → i < length b.consumers → (d : Consumer) → (dfa : ℕ) → surplus_by dfa (get_or b.consumers i d).declaration ≤ greatest_weight
   unfolding consumers_in
@@ -175,9 +175,9 @@ module _ (h : List Event) (b : Book) (k : Kept h b) (p : ℕ) (readings : List �
 
 -- the number of a close
 pub close_exact : (h : List Event) (b : Book) (k : Kept h b) (p : ℕ) (readings : List ℕ) → close_number b p ≡ number_in h (call.Close p) readings
-unfolding close_number_by number_in adjusted_demands_in adjusted_in
+unfolding close_number_by number_in adjusted_demands_in adjusted_in charges_in
 close_exact h b k p readings =
-    let left : ℕ → List Consumer → ℕ = λ d xs. close_rest d (sum (weights_of xs)) (reals_of xs) in
-    let within : ℕ = pick (all_at_most greatest_power (adjusted_demands_in h)) 0 14 in
+    let left : ℕ → List Consumer → ℕ = λ d xs. close_rest p d (sum (weights_of xs)) (reals_of xs) xs in
+    let within : ℕ = pick (all_at_most greatest_power (adjusted_demands_in h)) (charged_rest (charges_at p h)) 14 in
     behind h b.stage k.timing.stage_kept (call.Close p) [] Firm (left b.dmp b.consumers) (pick (all_heard_in h) within 16)
     (λ z s. ap (λ d. left d b.consumers) k.timing.dmp_kept ∙ ap (left (dmp_in h)) k.consumers.consumers_kept ∙ ap (λ t. pick t within 16) (all_heard_lem h))

@@ -35,7 +35,7 @@ use Rattle.claims.proofs.Parts.{the_timing, the_plants, the_consumers, the_groun
 use Rattle.claims.proofs.Stages.{firm_is, accepted_shows, behind}
 use Rattle.claims.proofs.Kept.{Contracts, Kept}
 use Rattle.claims.proofs.Untouched.{timing_other, plants_other, consumers-other, firm_other, money_before}
-use Rattle.claims.proofs.Cells.{same_cell, cell_within, length_row, cell_in_row, sum_row_set, row_other}
+use Rattle.state.proofs.Cells.{same_cell, cell_within, length_row, cell_in_row, sum_row_set, row_other}
 use Rattle.claims.proofs.Places.{known_at}
 use Rattle.claims.proofs.Offers.{limit_in}
 

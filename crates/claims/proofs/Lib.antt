@@ -14,7 +14,6 @@ pub mod ConsumerCalls
 pub mod Demands
 pub mod RealDemands
 pub mod Fixing
-pub mod Cells
 pub mod Offers
 pub mod ContractCalls
 pub mod Closing
@@ -25,3 +24,4 @@ pub mod Printed
 pub mod Refusals
 pub mod Cases
 pub mod Journals
+pub mod Before

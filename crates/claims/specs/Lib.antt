@@ -6,3 +6,4 @@ pub mod Refusals
 pub mod Cases
 pub mod Printed
 pub mod Journals
+pub mod Before

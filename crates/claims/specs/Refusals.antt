@@ -14,9 +14,10 @@ use Rattle.table.specs.declared.contracts.ContractCall.TheVariants as contract-c
 use Rattle.table.specs.Records as name
 use Rattle.state.specs.State.{fresh_book, ranged}
 use Rattle.gathering.specs.Units.{has_test, has_availability}
+use Rattle.close.specs.Close.{charges_in, charged_rest}
 use Rattle.book.specs.Lists.{Event, reply_to, after_all, accepted_by}
-use Rattle.claims.specs.History.{field, last_that, about, happened, stage_in, declared_in, real_in, commitments_in, releases_in}
-use Rattle.claims.specs.Figures.{producer_offer_in, total_declared_in, adjusted_demands_in}
+use Rattle.claims.specs.History.{field, last_that, about, happened, stage_in, dmp_in, declared_in, real_in, commitments_in, releases_in}
+use Rattle.claims.specs.Figures.{producer_offer_in, total_declared_in, consumers_in, adjusted_demands_in}
 
 -- 4: stage
 abbrev pub at_stage : ℕ → List Event → ℕ → ℕ
@@ -48,13 +49,19 @@ heard_in h c = pick (happened (declared_in h c)) (happened (real_in h c)) true
 abbrev pub all_heard_in : List Event → Bool
 all_heard_in h = list_all (λ i. heard_in h (suc i)) (range_with_len 0 consumers)
 
+-- the charges of a close at P; 19 is met where they are above 6,000,000,000,000 cents
+abbrev pub charges_at : ℕ → List Event → List ℕ
+charges_at p h = charges_in p (dmp_in h) (consumers_in h)
+
 -- the numbers in their order, each under its condition; 0 where none is met
 unfoldable pub number_in : List Event → Call → List ℕ → ℕ
 number_in h (call.Year hours) readings = ranged (call.Year hours) [] (at_stage 0 h 0)
 number_in h (call.Fix dmp) readings = ranged (call.Fix dmp) [] (at_stage 1 h (pick (eqb (total_declared_in h) 0) 13 0))
 number_in h (call.Close p) readings =
     ranged (call.Close p) []
-    (at_stage 2 h (pick (all_heard_in h) (pick (all_at_most greatest_power (adjusted_demands_in h)) 0 14) 16))
+    (at_stage 2 h
+    (pick (all_heard_in h)
+    (pick (all_at_most greatest_power (adjusted_demands_in h)) (charged_rest (charges_at p h)) 14) 16))
 number_in h (call.Unit unit (unit-call.Enrol e)) readings =
     ranged (call.Unit unit (unit-call.Enrol e)) [] (at_stage 1 h (already_enrolled h unit))
 number_in h (call.Unit unit (unit-call.Test component t)) readings =

@@ -8,6 +8,7 @@ ghost use Rattle.claims.specs.Refusals.{ExactRefusals};
 ghost use Rattle.claims.specs.Cases.{Thirteen};
 ghost use Rattle.claims.specs.Printed.{AlwaysPrinted};
 ghost use Rattle.claims.specs.Journals.{EveryJournal};
+ghost use Rattle.claims.specs.Before.{AsBefore, NarrowReadsAlike};
 
 // Demand 3 holds after every list of calls.
 #[tactic(auto, using(crate::proofs::Theorem::demand3))]
@@ -30,6 +31,16 @@ pub fn thirteen()
 // What is promised of the printed close holds after every list of calls.
 pub fn always_printed()
     ensures { AlwaysPrinted }
+{}
+
+// A journal whose reading meets no mark for consumers above 64 runs as it did under the table of 64.
+pub fn as_before()
+    ensures { AsBefore }
+{}
+
+// What the converter takes is read to its end under that table, record by record, as under the new one.
+pub fn narrow_reads_alike()
+    ensures { NarrowReadsAlike }
 {}
 
 // What is promised of the run holds of every journal.

@@ -12,12 +12,12 @@ use Rattle.basis.specs.Sums.{sum, all_at_most}
 use Rattle.basis.specs.Tables.{tab}
 use Rattle.basis.proofs.Sums.{sum_up_at_most}
 use Rattle.basis.proofs.Tables.{sum-tab}
-use Rattle.quantities.specs.Limits.{greatest_total, greatest_power, greatest_price, consumers}
+use Rattle.quantities.specs.Limits.{greatest_total, greatest_power, greatest_price}
 use Rattle.state.specs.declared.kept.Declaration.{Declaration}
 use Rattle.state.specs.declared.kept.Declaration.TheVariants.{Undeclared, Declared}
 use Rattle.state.specs.declared.kept.Consumer.{Consumer}
 use Rattle.state.specs.State.{fresh_consumer}
-use Rattle.close.specs.Close.{reals_of, adjusted_in, charge_by, all_heard}
+use Rattle.close.specs.Close.{reals_of, adjusted_in, charge_by, charges_in, all_heard}
 
 -- what one consumer is charged at most
 abbrev pub greatest_charge : ℕ
@@ -36,14 +36,15 @@ charge_at_most p dfa (Declared f) h k = go (ltb (100 * f.d) (98 * f.a))
     go true = omega (arith, priced_at_most p (dfa - f.df) (omega arith) k)
     go false = zero-le
 
--- all charges are within the range of the division: of so many consumers, each at most the greatest
-pub charges_at_most : (p : ℕ) (adjusted : List ℕ) (xs : List Consumer) → ((k : ℕ) → get_or adjusted k 0 ≤ greatest_power) → p ≤ greatest_price → sum (tab (λ i. charge_by p (get_or adjusted i 0) (get_or xs i fresh_consumer).declaration) consumers) ≤ greatest_total
-charges_at_most p adjusted xs e k =
+-- the charges of n consumers: each at most the greatest
+pub charges_at_most : (p : ℕ) (adjusted : List ℕ) (xs : List Consumer) (n : ℕ) → ((k : ℕ) → get_or adjusted k 0 ≤ greatest_power) → p ≤ greatest_price → sum (tab (λ i. charge_by p (get_or adjusted i 0) (get_or xs i fresh_consumer).declaration) n) ≤ n * greatest_charge
+charges_at_most p adjusted xs n e k =
     let f : ℕ → ℕ = λ i. charge_by p (get_or adjusted i 0) (get_or xs i fresh_consumer).declaration in
-    omega (arith, sum-tab f consumers, sum_up_at_most greatest_charge f consumers (λ i _. charge_at_most p (get_or adjusted i 0) (get_or xs i fresh_consumer).declaration (e i) k))
+    omega (arith, sum-tab f n, sum_up_at_most greatest_charge f n (λ i _. charge_at_most p (get_or adjusted i 0) (get_or xs i fresh_consumer).declaration (e i) k))
 
--- a close that is accepted has its price in range, no declared consumer without a Dreal, and no DFA above the greatest
+-- a close that is accepted has its price in range, no declared consumer without a Dreal, no DFA above the greatest, and charges that a division takes
 pub record AcceptedClose (dmp : ℕ) (xs : List Consumer) (p : ℕ) : Type 0 where
   pub price : p ≤ greatest_price
   pub heard : all_heard (reals_of xs) ≡ true
   pub within : all_at_most greatest_power (adjusted_in dmp xs) ≡ true
+  pub charged : sum (charges_in p dmp xs) ≤ greatest_total

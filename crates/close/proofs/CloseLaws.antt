@@ -1,4 +1,4 @@
--- The close: charges fit, figures by consumer, and what the division of the charges leaves.
+-- The close: figures by consumer, and what the division of the charges leaves.
 use Rattle.std.specs.Prelude.{Option, None, Result, Ok, Err, IfOk}
 use Rattle.std.specs.Result.{result_unwrap_or}
 use mathlib.Core.Path.{◌≡◌, refl, sym, ap, ◌∙◌}
@@ -7,13 +7,14 @@ use mathlib.Core.List.{List, [], map}
 use Prim.Native.Nat.{ℕ, ◌-◌, ◌/◌, ◌≤◌}
 use native.Mathlib.Nat.{zero-mul, zero-div}
 use native.Mathlib.Omega.{arith}
-use lib.Dec.{eqb}
+use borrow.Author.Tests.{leb-true}
+use lib.Dec.{leb, eqb}
 use lib.ListN.{length, get_or, replicate, get_or-map}
 use Rattle.basis.specs.Choice.{pick}
 use Rattle.basis.specs.Sums.{sum, all_at_most}
 use Rattle.basis.specs.Tables.{tab}
 use Rattle.basis.proofs.Sums.{sum_zeros, all_at_most_lem}
-use Rattle.basis.proofs.Tables.{tab_same, tab-map}
+use Rattle.basis.proofs.Tables.{tab_same, tab-map, tab-zip}
 use Rattle.share.specs.Division.{division_number, shares}
 use Rattle.quantities.specs.declared.refusals.Refusal.{Refusal}
 use Rattle.quantities.specs.Refusals.{met}
@@ -29,9 +30,9 @@ use Rattle.state.specs.declared.kept.Stage.{Stage}
 use Rattle.state.specs.declared.kept.Stage.TheVariants.{Firm}
 use Rattle.state.specs.State.{fresh_consumer, stage_number, staged}
 use Rattle.fix.specs.Fix.{weights_of}
-use Rattle.close.specs.Close.{real_demand, reals_of, adjusted_by, all_adjusted, adjusted_of, adjusted_in, surplus_by, charge_by, surpluses_in, charges_in, credits_of, undistributed_of, all_heard, close_rest, close_number_by, figures_of}
+use Rattle.close.specs.Close.{real_demand, reals_of, adjusted_by, all_adjusted, adjusted_of, adjusted_in, surplus_by, charge_by, surpluses_in, charges_of, charges_in, charged_rest, credits_of, undistributed_of, all_heard, close_rest, close_number_by, figures_of}
 use Rattle.basis.proofs.Choice.{peel_not, handed_on}
-use Rattle.close.proofs.Bounds.{charges_at_most, AcceptedClose}
+use Rattle.close.proofs.Bounds.{AcceptedClose}
 
 -- the DFA of all consumers, from what was found of them
 pub all_adjusted_lem : (dmp : ℕ) (xs : List Consumer) {total : ℕ} {reals : List (Option ℕ)} → total ≡ sum (weights_of xs) → reals ≡ reals_of xs → all_adjusted dmp total reals ≡ adjusted_in dmp xs
@@ -66,18 +67,19 @@ module _ (dmp : ℕ) (adjusted : List ℕ) (xs : List Consumer) (e : adjusted �
       (λ i _. ap (λ dfa. g dfa (get_or xs i fresh_consumer).declaration) (ap (λ (l : List ℕ). get_or l i 0) e ∙ adjusted_at dmp xs i))
       ∙ tab-map (λ x. g (h x) x.declaration) xs fresh_consumer consumers n
 
-  pub charges_by_consumer : (p : ℕ) → tab (λ i. charge_by p (get_or adjusted i 0) (get_or xs i fresh_consumer).declaration) consumers ≡ charges_in p dmp xs
-  unfolding charges_in
-  charges_by_consumer p = by_consumer (charge_by p)
-
   pub surpluses_by_consumer : tab (λ i. surplus_by (get_or adjusted i 0) (get_or xs i fresh_consumer).declaration) consumers ≡ surpluses_in dmp xs
   unfolding surpluses_in
   surpluses_by_consumer = by_consumer surplus_by
 
--- the charges of an accepted close
-pub charges_small : (dmp : ℕ) (xs : List Consumer) (p : ℕ) → AcceptedClose dmp xs p → length xs ≡ consumers → sum (charges_in p dmp xs) ≤ greatest_total
-charges_small dmp xs p a n =
-    rw (← charges_by_consumer dmp (adjusted_in dmp xs) xs refl n p) (charges_at_most p (adjusted_in dmp xs) xs (all_at_most_lem greatest_power (adjusted_in dmp xs) a.within) a.price)
+-- the charges, by the DFA of all
+pub charges_by_dfa : (p dmp : ℕ) (xs : List Consumer) {adjusted : List ℕ} → adjusted ≡ adjusted_in dmp xs → charges_of p adjusted xs ≡ charges_in p dmp xs
+unfolding charges_in
+charges_by_dfa p dmp xs e = ap (λ l. charges_of p l xs) e
+
+-- .. and place by place
+pub charges_by_place : (p : ℕ) (adjusted : List ℕ) (xs : List Consumer) → length adjusted ≡ consumers → length xs ≡ consumers → tab (λ i. charge_by p (get_or adjusted i 0) (get_or xs i fresh_consumer).declaration) consumers ≡ charges_of p adjusted xs
+unfolding charges_of
+charges_by_place p adjusted xs m n = tab-zip (λ dfa (x : Consumer). charge_by p dfa x.declaration) adjusted xs 0 fresh_consumer consumers m n
 
 -- the charges divided by the positive ADF, nothing where none is positive; what is not credited is undistributed
 module _ (T : ℕ) (ws : List ℕ) where
@@ -100,18 +102,21 @@ pub figures_with : (p dmp : ℕ) (xs : List Consumer) (adjusted charges surpluse
 unfolding figures_of
 figures_with p dmp xs adjusted charges surpluses shared charged credited rest a c s t h r u = rw (u, r, h, t, s, c, a)
 
--- an accepted close was within its range, every declared consumer was heard, and every DFA was within its range
-pub accepted-close : (stage : Stage) (dmp : ℕ) (xs : List Consumer) (p : ℕ) → close_number_by stage dmp (sum (weights_of xs)) (reals_of xs) p ≡ 0 → AcceptedClose dmp xs p
-unfolding close_number_by adjusted_in
+-- an accepted close was within its range, every declared consumer was heard, every DFA was within its range, and so were the charges
+pub accepted-close : (stage : Stage) (dmp : ℕ) (xs : List Consumer) (p : ℕ) → close_number_by stage dmp (sum (weights_of xs)) (reals_of xs) xs p ≡ 0 → AcceptedClose dmp xs p
+unfolding close_number_by charges_in adjusted_in
 accepted-close stage dmp xs p e =
     let reals = reals_of xs in
     let total : ℕ = sum (weights_of xs) in
-    let within : ℕ = pick (all_at_most greatest_power (all_adjusted dmp total reals)) 0 14 in
-    let a = handed_on (call_number (call.Close p) []) (staged Firm stage (close_rest dmp total reals)) e in
-    let b = peel_not (eqb (stage_number stage) (stage_number Firm)) 3 (close_rest dmp total reals) a.1 in
+    let charges : List ℕ = charges_of p (all_adjusted dmp total reals) xs in
+    let within : ℕ = pick (all_at_most greatest_power (all_adjusted dmp total reals)) (charged_rest charges) 14 in
+    let a = handed_on (call_number (call.Close p) []) (staged Firm stage (close_rest p dmp total reals xs)) e in
+    let b = peel_not (eqb (stage_number stage) (stage_number Firm)) 3 (close_rest p dmp total reals xs) a.1 in
     let c = peel_not (all_heard reals) 15 within b.1 in
+    let d = peel_not (all_at_most greatest_power (all_adjusted dmp total reals)) 13 (charged_rest charges) c.1 in
     record {
       price = (close-ranged p [] a.0).most;
       heard = c.0;
-      within = (peel_not (all_at_most greatest_power (all_adjusted dmp total reals)) 13 0 c.1).0;
+      within = d.0;
+      charged = leb-true (sum charges) greatest_total (peel_not (leb (sum charges) greatest_total) 18 0 d.1).0;
     }

@@ -1,11 +1,11 @@
 -- The close (2.6.5.2), declared consumers only.
-use Rattle.std.specs.Prelude.{Bool, List, [], map, ℕ, ◌-◌, ◌*◌, ◌/◌, ltb, eqb, replicate, Option, None, Some, is_some}
-use Rattle.std.specs.List.{list_all}
+use Rattle.std.specs.Prelude.{Bool, List, [], map, ℕ, ◌-◌, ◌*◌, ◌/◌, leb, ltb, eqb, replicate, Option, None, Some, is_some}
+use Rattle.std.specs.List.{list_all, zip}
 use Rattle.std.specs.Option.{option_or}
 use Rattle.basis.specs.Choice.{pick}
 use Rattle.basis.specs.Sums.{sum, all_at_most}
 use Rattle.share.specs.Division.{division_number, shares}
-use Rattle.quantities.specs.Limits.{greatest_power, consumers}
+use Rattle.quantities.specs.Limits.{greatest_total, greatest_power, consumers}
 use Rattle.table.specs.declared.calls.Call.TheVariants as call
 use Rattle.state.specs.declared.kept.Stage.{Stage}
 use Rattle.state.specs.declared.kept.Stage.TheVariants.{Firm, Closed}
@@ -57,8 +57,12 @@ charge_by p dfa (Declared f) = pick (ltb (100 * f.d) (98 * f.a)) ((dfa - f.df) *
 unfoldable pub surpluses_in : ℕ → List Consumer → List ℕ
 surpluses_in dmp xs = map (λ x. surplus_by (adjusted_of dmp (sum (weights_of xs)) x) x.declaration) xs
 
+-- the charge of each consumer, by its DFA
+unfoldable pub charges_of : ℕ → List ℕ → List Consumer → List ℕ
+charges_of p adjusted xs = map (λ (f : ℕ × Consumer). charge_by p f.0 f.1.declaration) (zip adjusted xs)
+
 unfoldable pub charges_in : ℕ → ℕ → List Consumer → List ℕ
-charges_in p dmp xs = map (λ x. charge_by p (adjusted_of dmp (sum (weights_of xs)) x) x.declaration) xs
+charges_in p dmp xs = charges_of p (adjusted_in dmp xs) xs
 
 -- "The charges are divided by the positive ADF; with none, all is undistributed."
 unfoldable pub credits_of : ℕ → List ℕ → List ℕ
@@ -72,17 +76,24 @@ undistributed_of total surpluses = pick (eqb (division_number total surpluses co
 unfoldable pub all_heard : List (Option ℕ) → Bool
 all_heard reals = list_all is_some reals
 
--- behind 3 and 4: 16, "checked before 14: close while a declared consumer has neither a reading nor a mean"; 14, a DFA above 3,000,000
-abbrev pub close_rest : ℕ → ℕ → List (Option ℕ) → ℕ
-close_rest dmp total reals =
-    pick (all_heard reals) (pick (all_at_most greatest_power (all_adjusted dmp total reals)) 0 14) 16
+-- 19, "after 14: charges above 6,000,000,000,000 cents" (document 02, A7)
+abbrev pub charged_rest : List ℕ → ℕ
+charged_rest charges = pick (leb (sum charges) greatest_total) 0 19
 
--- close: 3, 4, 16, 14; from DMP, ΣD and the Dreal of all consumers
-unfoldable pub close_number_by : Stage → ℕ → ℕ → List (Option ℕ) → ℕ → ℕ
-close_number_by stage dmp total reals p = ranged (call.Close p) [] (staged Firm stage (close_rest dmp total reals))
+-- behind 3 and 4: 16, "checked before 14: close while a declared consumer has neither a reading nor a mean"; 14, a DFA above 3,000,000; 19
+abbrev pub close_rest : ℕ → ℕ → ℕ → List (Option ℕ) → List Consumer → ℕ
+close_rest p dmp total reals xs =
+    pick (all_heard reals)
+    (pick (all_at_most greatest_power (all_adjusted dmp total reals)) (charged_rest (charges_of p (all_adjusted dmp total reals) xs)) 14) 16
+
+-- close: 3, 4, 16, 14, 19; from DMP, ΣD, and the Dreal and the declaration of all consumers
+unfoldable pub close_number_by : Stage → ℕ → ℕ → List (Option ℕ) → List Consumer → ℕ → ℕ
+close_number_by stage dmp total reals xs p =
+    ranged (call.Close p) [] (staged Firm stage (close_rest p dmp total reals xs))
 
 abbrev pub close_number : Book → ℕ → ℕ
-close_number b p = close_number_by b.stage b.dmp (sum (weights_of b.consumers)) (reals_of b.consumers) p
+close_number b p =
+    close_number_by b.stage b.dmp (sum (weights_of b.consumers)) (reals_of b.consumers) b.consumers p
 
 -- the figures of a close at P
 unfoldable pub figures_of : ℕ → ℕ → List Consumer → CloseFigures

@@ -32,7 +32,7 @@ pub fn real_demand(x: Consumer) -> Option<u32>
 pub fn real_demands(consumers: &[Consumer; CONSUMERS]) -> [Option<u32>; CONSUMERS]
     ensures { result ≡ reals_of consumers.now }
 {
-    consumers.map(real_demand)
+    array::from_fn(|i| real_demand(consumers[i]))
 }
 
 // Whether each declared consumer has a reading or a mean.

@@ -1,13 +1,13 @@
-// The close: range, stage, numbers 16 and 14, and the figures on copies of what the book keeps.
+// The close: range, stage, numbers 16, 14 and 19, and the figures on copies of what the book keeps.
 ghost use Rattle.std.specs.Prelude.{◌≡◌, true, ◌≤◌};
 ghost use Rattle.basis.specs.Sums.{all_at_most};
 ghost use Rattle.quantities.specs.Limits.{greatest_power, greatest_price};
 ghost use Rattle.quantities.specs.Refusals.{met};
-ghost use Rattle.state.specs.State.{replied};
+ghost use Rattle.state.specs.State.{reply_with, replied};
 ghost use Rattle.close.specs.Close.{adjusted_in, figures_of, close_number_by, close_number, close_of};
 
 use crate::adjusted::{adjusted, is_heard, is_within, real_demands, total_declared};
-use crate::money::{charges, credits, surpluses};
+use crate::money::{charges, check_charges, credits, surpluses};
 use quantities::{CONSUMERS, Refusal};
 use state::{Book, CloseFigures, Consumer, Stage, check_open};
 use table::Call;
@@ -34,27 +34,27 @@ fn figures(p: u32, dmp: u32, consumers: &[Consumer; CONSUMERS]) -> CloseFigures
     }
 }
 
-// What a close meets, from ΣD and the real demand of each consumer: 3, 4, 16, 14, or nothing. Nothing is changed. DMP and ΣD come as two
-// figures: DMP stands in the book, and a run keeps ΣD beside it.
+// What a close meets, from ΣD, and the real demand and the declaration of each consumer: 3, 4, 16, 14, 19, or nothing. Nothing is changed. DMP
+// and ΣD come as two figures: DMP stands in the book, and a run keeps ΣD, and the real demands, beside it.
 #[tactic(auto, unfolding(crate::specs::Close::close_number_by))]
 pub fn check_close(
     stage: Stage,
     dmp: u32,
     total: u64,
-    reals: &[Option<u32>],
+    reals: &[Option<u32>; CONSUMERS],
+    consumers: &[Consumer; CONSUMERS],
     p: u32,
 ) -> Result<(), Refusal>
-    ensures { met result ≡ close_number_by stage dmp total reals.now p }
+    ensures { met result ≡ close_number_by stage dmp total reals.now consumers.now p }
 {
     check_open(Call::Close { p }, stage, Stage::Firm)?;
     if !is_heard(reals) {
         return Err(Refusal::NoRealDemand);
     }
-    if is_within(dmp, total, reals) {
-        Ok(())
-    } else {
-        Err(Refusal::AboveGreatestPower)
+    if !is_within(dmp, total, reals) {
+        return Err(Refusal::AboveGreatestPower);
     }
+    check_charges(p, &adjusted(dmp, total, reals), consumers)
 }
 
 // The same, of the book as it stands.
@@ -63,18 +63,25 @@ fn check_book(book: &Book, p: u32) -> Result<(), Refusal>
 {
     let total = total_declared(&book.consumers);
     let reals = real_demands(&book.consumers);
-    check_close(book.stage, book.dmp, total, &reals, p)
+    check_close(book.stage, book.dmp, total, &reals, &book.consumers, p)
+}
+
+// The close in place: the figures are worked out beside the book, and put into it once every check has passed.
+#[tactic(auto, unfolding(crate::specs::Close::closed, crate::specs::Close::close_of))]
+pub fn settle_close(book: &mut Book, p: u32) -> Result<(), Refusal>
+    ensures { reply_with (met result) book.new ≡ close_of book.old p }
+{
+    check_book(book, p)?;
+    book.closing = figures(p, book.dmp, &book.consumers);
+    book.stage = Stage::Closed;
+    Ok(())
 }
 
 // The close at P cents per kW-month.
-#[tactic(auto, unfolding(crate::specs::Close::closed, crate::specs::Close::close_of))]
-pub fn close(book: Book, p: u32) -> Result<Book, Refusal>
+#[tactic(auto, using(state::proofs::Replies::refused_reply), unfolding(crate::specs::Close::close_of))]
+pub fn close(mut book: Book, p: u32) -> Result<Book, Refusal>
     ensures { replied book result ≡ close_of book p }
 {
-    check_book(&book, p)?;
-    Ok(Book {
-        stage: Stage::Closed,
-        closing: figures(p, book.dmp, &book.consumers),
-        ..book
-    })
+    settle_close(&mut book, p)?;
+    Ok(book)
 }

@@ -1,13 +1,14 @@
 // Positive adjustments, charges and credits.
-ghost use Rattle.std.specs.Prelude.{◌≡◌, ℕ, ◌-◌, ◌≤◌, get_or};
+ghost use Rattle.std.specs.Prelude.{◌≡◌, ℕ, ◌-◌, ◌≤◌, ◌<◌, ◌^◌, get_or};
 ghost use Rattle.basis.specs.Sums.{sum};
 ghost use Rattle.basis.specs.Tables.{tab};
-ghost use Rattle.quantities.specs.Limits.{greatest_total, greatest_power, greatest_price, consumers as consumer_count};
+ghost use Rattle.quantities.specs.Limits.{greatest_power, greatest_price, consumers as consumer_count};
+ghost use Rattle.quantities.specs.Refusals.{met};
 ghost use Rattle.state.specs.State.{fresh_consumer};
-ghost use Rattle.close.specs.Close.{surplus_by, charge_by, credits_of, undistributed_of};
+ghost use Rattle.close.specs.Close.{surplus_by, charge_by, charges_of, charged_rest, credits_of, undistributed_of};
 
 use fix::among_consumers;
-use quantities::CONSUMERS;
+use quantities::{CONSUMERS, GREATEST_TOTAL, Refusal};
 use state::{Consumer, Declaration, Figures};
 use std::array;
 
@@ -44,8 +45,8 @@ fn charge(p: u32, dfa: u32, declaration: Declaration) -> u64
     }
 }
 
-// The charge of each consumer. No type of a price in its range: two functions ask for that; the bound of the DFA stands in this function's
-// terms, place by place.
+// The charge of each consumer: so many, each in its range, that their sum has 64 bits. No type of a price in its range: three functions ask for
+// that; the bound of the DFA stands in this function's terms, place by place, here and below.
 pub(crate) fn charges(
     p: u32,
     adjusted: &[u32; CONSUMERS],
@@ -53,10 +54,28 @@ pub(crate) fn charges(
 ) -> [u64; CONSUMERS]
     requires price { p ≤ greatest_price }
     requires within { (k : ℕ) → get_or adjusted.now k 0 ≤ greatest_power }
-    ensures each { result ≡ tab (λ i. charge_by p (get_or adjusted.now i 0) (get_or consumers.now i fresh_consumer).declaration) consumer_count }
-    ensures small { sum result ≤ greatest_total }
+    ensures each { result ≡ charges_of p adjusted.now consumers.now }
+    ensures fits { sum result < 2 ^ 64 }
 {
     array::from_fn(|i| charge(p, adjusted[i], consumers[i].declaration))
+}
+
+// 19: the charges are more than a division takes.
+pub(crate) fn check_charges(
+    p: u32,
+    adjusted: &[u32; CONSUMERS],
+    consumers: &[Consumer; CONSUMERS],
+) -> Result<(), Refusal>
+    requires price { p ≤ greatest_price }
+    requires within { (k : ℕ) → get_or adjusted.now k 0 ≤ greatest_power }
+    ensures { met result ≡ charged_rest (charges_of p adjusted.now consumers.now) }
+{
+    let charged: u64 = charges(p, adjusted, consumers).iter().sum();
+    if charged <= GREATEST_TOTAL {
+        Ok(())
+    } else {
+        Err(Refusal::AboveGreatestTotal)
+    }
 }
 
 // The charges divided by the positive ADF; with none, all is undistributed.

@@ -60,18 +60,21 @@ fn released(balance: u32, q: u32) -> Result<u32, Refusal>
     balance.checked_sub(q).ok_or(Refusal::AboveBalance)
 }
 
-// A call of a contract, decided from the stage, the consumer's declaration, the balances and what producers may commit: a refusal, or the
-// balance that is to be stored. Its parameters come apart, as the match over the call that chose this function has them.
+// A call of a contract, decided from the stage, the consumer's declaration, the balances, the sum of the producer's, and what producers may commit:
+// a refusal, or the balance that is to be stored. The sum comes beside the balances, since a run keeps it: for our own crates and not for buyers.
+// The parameters come apart, here and below, as the match over the call that chose this function has them.
 #[tactic(auto, unfolding(table::specs::Ranges::call_number, table::specs::Ranges::rest_in_range, crate::specs::ContractCalls::contract_answer_of, crate::specs::ContractCalls::contract_number, crate::specs::ContractCalls::contract_rest, crate::specs::ContractCalls::balance_after))]
-pub fn contract_answer(
+pub fn contract_answer_by(
     producer: u32,
     consumer: u32,
     act: ContractCall,
     stage: Stage,
     declaration: Declaration,
+    total: u64,
     balances: &[u32; CELLS],
     limits: &[u32; PRODUCERS],
 ) -> Result<Balance, Refusal>
+    requires { total ≡ producer_balance balances.now producer }
     ensures { decided result ≡ contract_answer_of producer consumer act stage declaration balances.now limits.now }
 {
     check_fields(Call::Contract {
@@ -83,13 +86,35 @@ pub fn contract_answer(
     check_declared(declaration)?;
     // Both are in range here, so that no Option of a place is left.
     let row = (producer - 1) as usize;
-    let from = row * CONSUMERS;
-    let cell = from + (consumer - 1) as usize;
+    let cell = row * CONSUMERS + (consumer - 1) as usize;
     let balance = match act {
-        ContractCall::Commit { q } => {
-            committed(limits[row], row_sum(balances, from), balances[cell], q)?
-        }
+        ContractCall::Commit { q } => committed(limits[row], total, balances[cell], q)?,
         ContractCall::Release { q } => released(balances[cell], q)?,
     };
     Ok(Balance { cell, balance })
+}
+
+// The same, from the balances alone.
+pub fn contract_answer(
+    producer: u32,
+    consumer: u32,
+    act: ContractCall,
+    stage: Stage,
+    declaration: Declaration,
+    balances: &[u32; CELLS],
+    limits: &[u32; PRODUCERS],
+) -> Result<Balance, Refusal>
+    ensures { decided result ≡ contract_answer_of producer consumer act stage declaration balances.now limits.now }
+{
+    let total = producer_balance(balances, producer);
+    contract_answer_by(
+        producer,
+        consumer,
+        act,
+        stage,
+        declaration,
+        total,
+        balances,
+        limits,
+    )
 }

@@ -5,4 +5,4 @@ mod consumers; // consumers.rt: calls of a consumer
 mod contracts; // contracts.rt: calls of a contract
 
 pub use consumers::consumer_answer;
-pub use contracts::{Balance, contract_answer, producer_balance};
+pub use contracts::{Balance, contract_answer, contract_answer_by, producer_balance};

@@ -3,4 +3,5 @@ pub mod Replies
 pub mod Findings
 pub mod Printing
 pub mod Summing
+pub mod Narrowing
 pub mod Promises

@@ -17,12 +17,12 @@ pub fn declared(declaration: Declaration) -> u32
     declaration.figures().map_or(0, |figures| figures.d)
 }
 
-// What each consumer declared, the weights of firm demand.
+// What each consumer declared, the weights of firm demand. By places: a map of the array would take a copy of all consumers.
 pub fn weights(consumers: &[Consumer; CONSUMERS]) -> [u64; CONSUMERS]
     ensures each { result ≡ weights_of consumers.now }
     ensures fits { sum result < 2 ^ 64 }
 {
-    consumers.map(|x| u64::from(declared(x.declaration)))
+    array::from_fn(|i| u64::from(declared(consumers[i].declaration)))
 }
 
 // The division of DMP by D.

@@ -2,7 +2,7 @@
 ghost use Rattle.std.specs.Prelude.{◌≡◌};
 ghost use Rattle.quantities.specs.Refusals.{met};
 ghost use Rattle.share.specs.Division.{shares};
-ghost use Rattle.state.specs.State.{replied};
+ghost use Rattle.state.specs.State.{reply_with, replied};
 ghost use Rattle.fix.specs.Fix.{weights_of, fix_number_by, fixed, fix_of};
 
 use crate::demands::{demands, weights, with_demands};
@@ -20,31 +20,38 @@ pub fn check_fix(stage: Stage, consumers: &[Consumer; CONSUMERS], dmp: u32) -> R
     share::check_division(dmp.into(), &weights(consumers), CONSUMERS)
 }
 
-// The book of the firm year, once DMP is divided.
+// The book of the firm year, once DMP is divided: what the fix finds, put into the book, and no other part of it copied.
 #[tactic(auto, unfolding(crate::specs::Fix::fixed))]
-fn fixed(book: Book, dmp: u32, demands: &[u32; CONSUMERS]) -> Book
-    requires { demands.now ≡ shares dmp (weights_of book.consumers) }
-    ensures { result ≡ fixed book dmp }
+fn put_fixed(book: &mut Book, dmp: u32, demands: &[u32; CONSUMERS])
+    requires { demands.now ≡ shares dmp (weights_of book.old.consumers) }
+    ensures { book.new ≡ fixed book.old dmp }
 {
     let offers = offers(book.hours, &book.units);
     let efficient = efficient(&book.units, &offers);
-    Book {
-        stage: Stage::Firm,
-        consumers: with_demands(demands, &book.consumers),
-        dmp,
-        offers,
-        efficient,
-        limits: limits(&book.units, &efficient),
-        ..book
-    }
+    book.limits = limits(&book.units, &efficient);
+    book.offers = offers;
+    book.efficient = efficient;
+    book.consumers = with_demands(demands, &book.consumers);
+    book.stage = Stage::Firm;
+    book.dmp = dmp;
 }
 
-// The fix at a projected maximum demand DMP, kW.
+// The fix in place: a refused one changes nothing.
 #[tactic(auto, unfolding(crate::specs::Fix::fix_number_by, crate::specs::Fix::fix_of))]
-pub fn fix(book: Book, dmp: u32) -> Result<Book, Refusal>
-    ensures { replied book result ≡ fix_of book dmp }
+pub fn settle_fix(book: &mut Book, dmp: u32) -> Result<(), Refusal>
+    ensures { reply_with (met result) book.new ≡ fix_of book.old dmp }
 {
     check_open(Call::Fix { dmp }, book.stage, Stage::Gathering)?;
     let demands = demands(dmp, &book.consumers)?;
-    Ok(fixed(book, dmp, &demands))
+    put_fixed(book, dmp, &demands);
+    Ok(())
+}
+
+// The fix at a projected maximum demand DMP, kW.
+#[tactic(auto, using(state::proofs::Replies::refused_reply), unfolding(crate::specs::Fix::fix_of))]
+pub fn fix(mut book: Book, dmp: u32) -> Result<Book, Refusal>
+    ensures { replied book result ≡ fix_of book dmp }
+{
+    settle_fix(&mut book, dmp)?;
+    Ok(book)
 }

@@ -8,4 +8,4 @@ mod offers; // offers.rt: the offers of all units, and what each producer may co
 
 pub use demands::{declared, weights};
 pub use division::among_consumers;
-pub use fixing::{check_fix, fix};
+pub use fixing::{check_fix, fix, settle_fix};

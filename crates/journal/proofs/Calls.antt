@@ -19,19 +19,19 @@ abbrev pub event : List ℕ → Call → ℕ → ℕ → Event
 event s c from next = record { call = c; readings = part_of s from next }
 
 module _ (n : ℕ) (s : List ℕ) (at : ℕ) where
-  records_end : read_at s at ≡ End → records_from (suc n) s at ≡ []
+  pub records_end : read_at s at ≡ End → records_from (suc n) s at ≡ []
   unfolding records_from
   records_end e = rw (e, records_from)
 
-  records_cut : read_at s at ≡ Cut → records_from (suc n) s at ≡ []
+  pub records_cut : read_at s at ≡ Cut → records_from (suc n) s at ≡ []
   unfolding records_from
   records_cut e = rw (e, records_from)
 
-  records_unknown : read_at s at ≡ Unknown → records_from (suc n) s at ≡ []
+  pub records_unknown : read_at s at ≡ Unknown → records_from (suc n) s at ≡ []
   unfolding records_from
   records_unknown e = rw (e, records_from)
 
-  records_more : {c : Call} {from next : ℕ} → read_at s at ≡ Record c from next → records_from (suc n) s at ≡ record { place = at; event = event s c from next } ∷ records_from n s next
+  pub records_more : {c : Call} {from next : ℕ} → read_at s at ≡ Record c from next → records_from (suc n) s at ≡ record { place = at; event = event s c from next } ∷ records_from n s next
   unfolding records_from
   records_more e = rw (e, records_from)
 

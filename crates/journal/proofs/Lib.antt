@@ -7,4 +7,5 @@ pub mod Refusals
 pub mod Earliest
 pub mod Stops
 pub mod Ready
+pub mod Summed
 pub mod Underway

@@ -18,6 +18,7 @@ use Rattle.quantities.proofs.RefusalLaws.{refusing}
 use Rattle.table.specs.Ranges.{call_number}
 use Rattle.table.specs.declared.calls.Call.TheVariants as call
 use Rattle.table.specs.declared.consumers.ConsumerCall.{ConsumerCall}
+use Rattle.table.specs.declared.contracts.ContractCall.{ContractCall}
 use Rattle.power.specs.declared.component.Hours.{Hours}
 use Rattle.state.specs.declared.kept.Stage.{Stage}
 use Rattle.state.specs.declared.kept.Consumer.{Consumer}
@@ -28,6 +29,7 @@ use Rattle.fix.specs.Fix.{declared_by, weights_of}
 use Rattle.close.specs.Close.{real_demand, reals_of, close_number_by, close_number, closed, close_of}
 use Rattle.book.specs.Year.{year_number, begun, year_of}
 use Rattle.decision.specs.Consumers.{consumer_rest, consumer_after, consumer_number, consumer_answer_of, consumer_of}
+use Rattle.decision.specs.ContractCalls.{after_contract, contract_of}
 use Rattle.decision.proofs.Acts.{declaration_kept}
 use Rattle.decision.proofs.Settled.{settled_consumer, consumer_settled}
 use Rattle.journal.specs.Ledger.{Ready}
@@ -61,6 +63,11 @@ module _ (n : ℕ) (b new : Book) {after : Book} where
             reals_right = λ f. rw k (r.reals_right (sym (ap stage_number s) ∙ f));
           }
       go false = r
+
+-- .. as a call of a contract does
+pub ready_beside_contract : (b : Book) (producer consumer : ℕ) (act : ContractCall) {after : Book} {total : ℕ} {reals : List (Option ℕ)} → reply_with 0 after ≡ contract_of b producer consumer act → Ready b total reals → Ready after total reals
+unfolding contract_of after_contract
+ready_beside_contract b producer consumer act e r = ready_aside _ b (after_contract b producer consumer act) refl refl e r
 
 -- a list of what consumers have, one of them replaced
 map_replaced : {A : Type 0} (f : Consumer → A) (xs : List Consumer) (i : ℕ) (x : Consumer) → map f (set xs i x) ≡ set (map f xs) i (f (get_or (set xs i x) i fresh_consumer))
@@ -105,27 +112,35 @@ module _ (b : Book) (consumer : ℕ) (act : ConsumerCall) (place : ℕ) {after :
             λ s. ap (λ l. set l place (real_demand (get_or (set b.consumers place (consumer_after act old)) place fresh_consumer))) (r.reals_right s) ∙ sym (map_replaced real_demand b.consumers place (consumer_after act old));
       })
 
--- the year and the close lead to other stages
-pub ready_begun : (b : Book) (hours : Hours) {after : Book} {total : ℕ} {reals : List (Option ℕ)} → reply_with 0 after ≡ year_of b hours → length reals ≡ consumers → Ready after total reals
+-- the year and the close lead to other stages; refused, they leave the book
+pub ready_year : (b : Book) (hours : Hours) {after : Book} {number total : ℕ} {reals : List (Option ℕ)} → reply_with number after ≡ year_of b hours → Ready b total reals → Ready after total reals
 unfolding year_of begun
-ready_begun b hours {after} e n = not_firm n (λ s. omega (arith, ap (λ (x : Book). stage_number x.stage) (accepted_book (year_number b hours) b (begun b hours) e), s))
+ready_year b hours {after} {number} {total} {reals} e r = rw (ap (λ (q : Reply). q.book) e) (go (eqb (year_number b hours) 0))
+  where
+    go : (t : Bool) → Ready (pick t (begun b hours) b) total reals
+    go true = not_firm r.count (λ s. omega (arith, s))
+    go false = r
 
-pub ready_closed : (b : Book) (p : ℕ) {after : Book} {total : ℕ} {reals : List (Option ℕ)} → reply_with 0 after ≡ close_of b p → length reals ≡ consumers → Ready after total reals
+pub ready_close : (b : Book) (p : ℕ) {after : Book} {number total : ℕ} {reals : List (Option ℕ)} → reply_with number after ≡ close_of b p → Ready b total reals → Ready after total reals
 unfolding close_of closed
-ready_closed b p {after} e n = not_firm n (λ s. omega (arith, ap (λ (x : Book). stage_number x.stage) (accepted_book (close_number b p) b (closed b p) e), s))
+ready_close b p {after} {number} {total} {reals} e r = rw (ap (λ (q : Reply). q.book) e) (go (eqb (close_number b p) 0))
+  where
+    go : (t : Bool) → Ready (pick t (closed b p) b) total reals
+    go true = not_firm r.count (λ s. omega (arith, s))
+    go false = r
 
 -- in another stage a close's number does not depend on them
-other_stage : (stage : Stage) (dmp total₁ total₂ : ℕ) (reals₁ reals₂ : List (Option ℕ)) (p : ℕ) → eqb (stage_number stage) 2 ≡ false → close_number_by stage dmp total₁ reals₁ p ≡ close_number_by stage dmp total₂ reals₂ p
+other_stage : (stage : Stage) (dmp total₁ total₂ : ℕ) (reals₁ reals₂ : List (Option ℕ)) (xs : List Consumer) (p : ℕ) → eqb (stage_number stage) 2 ≡ false → close_number_by stage dmp total₁ reals₁ xs p ≡ close_number_by stage dmp total₂ reals₂ xs p
 unfolding close_number_by
-other_stage stage dmp total₁ total₂ reals₁ reals₂ p q = rw q
+other_stage stage dmp total₁ total₂ reals₁ reals₂ xs p q = rw q
 
 -- the number of a close that is found from them
-pub close_found : (b : Book) (total : ℕ) (reals : List (Option ℕ)) (p : ℕ) → Ready b total reals → close_number_by b.stage b.dmp total reals p ≡ close_number b p
+pub close_found : (b : Book) (total : ℕ) (reals : List (Option ℕ)) (p : ℕ) → Ready b total reals → close_number_by b.stage b.dmp total reals b.consumers p ≡ close_number b p
 close_found b total reals p r = same (eqb (stage_number b.stage) 2) refl
   where
-    same : (t : Bool) → eqb (stage_number b.stage) 2 ≡ t → close_number_by b.stage b.dmp total reals p ≡ close_number b p
+    same : (t : Bool) → eqb (stage_number b.stage) 2 ≡ t → close_number_by b.stage b.dmp total reals b.consumers p ≡ close_number b p
     same true q =
         let s = eqb-true (stage_number b.stage) 2 q in
-        ap (λ t. close_number_by b.stage b.dmp t reals p) (r.total_right s)
-        ∙ ap (λ l. close_number_by b.stage b.dmp (sum (weights_of b.consumers)) l p) (r.reals_right s)
-    same false q = other_stage b.stage b.dmp total (sum (weights_of b.consumers)) reals (reals_of b.consumers) p q
+        ap (λ t. close_number_by b.stage b.dmp t reals b.consumers p) (r.total_right s)
+        ∙ ap (λ l. close_number_by b.stage b.dmp (sum (weights_of b.consumers)) l b.consumers p) (r.reals_right s)
+    same false q = other_stage b.stage b.dmp total (sum (weights_of b.consumers)) reals (reals_of b.consumers) b.consumers p q

@@ -4,7 +4,7 @@ ghost use Rattle.journal.specs.Run.{run_of};
 
 use crate::ledger::Ledger;
 use crate::outcome::{Run, Tally};
-use record::{Read, read_at, readings_of, stop_number};
+use record::{Read, read_at, stop_number};
 
 // The run over a journal, from a fresh book.
 #[tactic(auto, using(crate::proofs::Underway::begins, crate::proofs::Underway::ends, crate::proofs::Underway::turn_fits, crate::proofs::Underway::turn_less))]
@@ -23,7 +23,7 @@ pub fn run(journal: &[u8]) -> Run
         else {
             return tally.ended(ledger.book, stop_number(read));
         };
-        let answer = ledger.take(call, readings_of(journal, readings, next));
+        let answer = ledger.take(call, journal, readings, next);
         tally.count(answer, next);
     }
 }

@@ -1,13 +1,11 @@
 // The lines of consumers.
-ghost use Rattle.std.specs.Prelude.{◌≡◌};
+ghost use Rattle.std.specs.Prelude.{◌≡◌, ◌++◌, ◌+◌, ◌≤◌, length};
 ghost use Rattle.letters.specs.Letters.{demand_line, demand_lines, settlement_line, settlement_lines};
 
+use crate::room::{LONGEST, LONGEST_BY_CONSUMER};
 use quantities::CONSUMERS;
 use state::{CloseFigures, Consumer, Declaration};
 use text::{Amount, LONGEST_LINE, Text, line};
-
-// The most bytes of a line for each consumer.
-pub const LONGEST_BY_CONSUMER: usize = CONSUMERS * LONGEST_LINE;
 
 // The line D of a consumer, none where it is not declared.
 // A match: each case has a text of its own.
@@ -24,12 +22,14 @@ fn demand_line(number: usize, declaration: Declaration) -> Text<LONGEST_LINE>
     }
 }
 
-// The lines D of all consumers.
+// The lines D of all consumers, behind what a listing has so far, here and below.
 #[tactic(auto, unfolding(crate::specs::Letters::demand_lines))]
-pub fn demand_lines(consumers: &[Consumer; CONSUMERS]) -> Text<LONGEST_BY_CONSUMER>
-    ensures { result ≡ demand_lines consumers.now }
+pub fn push_demand_lines(consumers: &[Consumer; CONSUMERS], listing: &mut Text<LONGEST>)
+    requires { length listing.old + LONGEST_BY_CONSUMER ≤ LONGEST }
+    ensures text { listing.new ≡ listing.old ++ demand_lines consumers.now }
+    ensures room { length listing.new ≤ length listing.old + LONGEST_BY_CONSUMER }
 {
-    Text::join(CONSUMERS, |i| demand_line(i + 1, consumers[i].declaration))
+    listing.push_join(CONSUMERS, |i| demand_line(i + 1, consumers[i].declaration));
 }
 
 // The line S of a consumer, none where it is not declared; its figures come one by one, as the book keeps each in an array of its own.
@@ -60,13 +60,16 @@ fn settlement_line(
 
 // The lines S of all consumers.
 #[tactic(auto, unfolding(crate::specs::Letters::settlement_lines))]
-pub fn settlement_lines(
+pub fn push_settlement_lines(
     consumers: &[Consumer; CONSUMERS],
     closing: &CloseFigures,
-) -> Text<LONGEST_BY_CONSUMER>
-    ensures { result ≡ settlement_lines consumers.now closing.now.adjusted closing.now.charges closing.now.credits }
+    listing: &mut Text<LONGEST>,
+)
+    requires { length listing.old + LONGEST_BY_CONSUMER ≤ LONGEST }
+    ensures text { listing.new ≡ listing.old ++ settlement_lines consumers.now closing.now.adjusted closing.now.charges closing.now.credits }
+    ensures room { length listing.new ≤ length listing.old + LONGEST_BY_CONSUMER }
 {
-    Text::join(CONSUMERS, |i| {
+    listing.push_join(CONSUMERS, |i| {
         settlement_line(
             i + 1,
             consumers[i].declaration,
@@ -74,5 +77,5 @@ pub fn settlement_lines(
             closing.charges[i],
             closing.credits[i],
         )
-    })
+    });
 }

@@ -1,15 +1,13 @@
 // The lines of producers.
-ghost use Rattle.std.specs.Prelude.{◌≡◌};
+ghost use Rattle.std.specs.Prelude.{◌≡◌, ◌++◌, ◌+◌, ◌≤◌, length};
 ghost use Rattle.letters.specs.Letters.{owners_of, producer_line, producer_lines};
 
+use crate::room::{LONGEST, LONGEST_BY_PRODUCER};
 use crate::units::has_unit;
 use decision::producer_balance;
 use quantities::{PRODUCERS, UNITS};
 use state::{CELLS, Unit};
 use text::{LONGEST_LINE, Text, line};
-
-// The most bytes of a line for each producer.
-pub const LONGEST_BY_PRODUCER: usize = PRODUCERS * LONGEST_LINE;
 
 // The line P of a producer, none where it has no unit.
 // The flag stands beside the figures, as in the definition: the book has a limit for every producer.
@@ -27,16 +25,19 @@ fn producer_line(number: usize, owner: bool, limit: u32, balance: u64) -> Text<L
     }
 }
 
-// The lines P of all producers. By parts of the book, as the definitions are.
+// The lines P of all producers, behind what a listing has so far. By parts of the book, as the definitions are.
 #[tactic(auto, unfolding(crate::specs::Letters::producer_lines))]
-pub fn producer_lines(
+pub fn push_producer_lines(
     units: &[Unit; UNITS],
     limits: &[u32; PRODUCERS],
     balances: &[u32; CELLS],
-) -> Text<LONGEST_BY_PRODUCER>
-    ensures { result ≡ producer_lines (owners_of units.now) limits.now balances.now }
+    listing: &mut Text<LONGEST>,
+)
+    requires { length listing.old + LONGEST_BY_PRODUCER ≤ LONGEST }
+    ensures text { listing.new ≡ listing.old ++ producer_lines (owners_of units.now) limits.now balances.now }
+    ensures room { length listing.new ≤ length listing.old + LONGEST_BY_PRODUCER }
 {
-    Text::join(PRODUCERS, |i| {
+    listing.push_join(PRODUCERS, |i| {
         let producer = i as u32 + 1;
         producer_line(
             i + 1,
@@ -44,5 +45,5 @@ pub fn producer_lines(
             limits[i],
             producer_balance(balances, producer),
         )
-    })
+    });
 }

@@ -1,13 +1,11 @@
 // The lines of units, and whose units they are.
-ghost use Rattle.std.specs.Prelude.{◌≡◌};
+ghost use Rattle.std.specs.Prelude.{◌≡◌, ◌++◌, ◌+◌, ◌≤◌, length};
 ghost use Rattle.letters.specs.Letters.{unit_line, unit_lines, owners_of, owns};
 
+use crate::room::{LONGEST, LONGEST_BY_UNIT};
 use quantities::UNITS;
 use state::{Entry, Unit};
 use text::{LONGEST_LINE, Text, line};
-
-// The most bytes of a line for each unit.
-pub const LONGEST_BY_UNIT: usize = UNITS * LONGEST_LINE;
 
 // The line U of a unit, none where it is not enrolled.
 // A match: each case has a text of its own.
@@ -33,19 +31,22 @@ fn unit_line(
     }
 }
 
-// The lines U of all units. By parts of the book, as the definitions are.
+// The lines U of all units, behind what a listing has so far. By parts of the book, as the definitions are.
 #[tactic(auto, unfolding(crate::specs::Letters::unit_lines))]
-pub fn unit_lines(
+pub fn push_unit_lines(
     units: &[Unit; UNITS],
     offers: &[u32; UNITS],
     efficient: &[u32; UNITS],
-) -> Text<LONGEST_BY_UNIT>
-    ensures { result ≡ unit_lines units.now offers.now efficient.now }
+    listing: &mut Text<LONGEST>,
+)
+    requires { length listing.old + LONGEST_BY_UNIT ≤ LONGEST }
+    ensures text { listing.new ≡ listing.old ++ unit_lines units.now offers.now efficient.now }
+    ensures room { length listing.new ≤ length listing.old + LONGEST_BY_UNIT }
 {
-    Text::join(
+    listing.push_join(
         UNITS,
         |i| unit_line(i + 1, units[i].enrolment, offers[i], efficient[i]),
-    )
+    );
 }
 
 // Whether a producer has a unit; one that is not enrolled is of producer 0, which no line has.

@@ -2,7 +2,7 @@
 use Rattle.std.specs.Prelude.{◌≡◌, ℕ, false, Err, eqb, refl}
 use Rattle.basis.specs.Choice.{pick}
 use Rattle.quantities.specs.declared.refusals.Refusal.{Refusal}
-use Rattle.quantities.specs.declared.refusals.Refusal.TheVariants.{OutOfRange, WrongStage, AlreadyEnrolled, NotEnrolled, ForeignComponent, CountAgainstTime, ImpossibleMinutes, NotDeclared, AboveOffers, AboveBalance, NoWeight, AboveGreatestPower, ShortBuffer, NoRealDemand, OutOfOrder}
+use Rattle.quantities.specs.declared.refusals.Refusal.TheVariants.{OutOfRange, WrongStage, AlreadyEnrolled, NotEnrolled, ForeignComponent, CountAgainstTime, ImpossibleMinutes, NotDeclared, AboveOffers, AboveBalance, NoWeight, AboveGreatestPower, ShortBuffer, NoRealDemand, OutOfOrder, WideMark, AboveGreatestTotal}
 use Rattle.quantities.specs.Refusals.{refusal_number, decided_by, decided}
 
 -- 0 is no refusal's number
@@ -22,6 +22,8 @@ refusing AboveGreatestPower = refl
 refusing ShortBuffer = refl
 refusing NoRealDemand = refl
 refusing OutOfOrder = refl
+refusing WideMark = refl
+refusing AboveGreatestTotal = refl
 
 -- a number that a refusal has decides by that refusal
 pub refused_by : {A : Type 0} (refusal : Refusal) (n : ℕ) (stored : A) → refusal_number refusal ≡ n → decided (Err refusal) ≡ decided_by n stored

@@ -1,17 +1,18 @@
 -- The limits of document 01, each once: "Quantities", the ranges of "Journal records", "Division by shares"; and those of document 02.
 use Rattle.std.specs.Prelude.{ℕ}
 
--- "Units are 1 to 48, producers 1 to 16, consumers 1 to 64."
+-- "Units are 1 to 48, producers 1 to 16"
 abbrev pub units : ℕ
 units = 48
 
 abbrev pub producers : ℕ
 producers = 16
 
+-- "The limit of 64 becomes 300" (document 02, A7)
 abbrev pub consumers : ℕ
-consumers = 64
+consumers = 300
 
--- the greatest consumer that a record's field of one byte names
+-- "consumers 1 to 64", those that a record's field of one byte names
 abbrev pub byte_consumers : ℕ
 byte_consumers = 64
 
@@ -72,7 +73,7 @@ greatest_count = 96
 abbrev pub greatest_price : ℕ
 greatest_price = 2500
 
--- "The library sold alone takes 1 to 64 weights up to 3,000,000 and T up to 6,000,000,000,000"
+-- "The library sold alone takes 1 to 64 weights up to 3,000,000 and T up to 6,000,000,000,000"; the limit of 64 "becomes 300, for the division too" (A7)
 abbrev pub greatest_total : ℕ
 greatest_total = 6000000000000
 

@@ -2,7 +2,7 @@
 use Rattle.std.specs.Prelude.{ℕ, Result, Ok, Err, eqb}
 use Rattle.basis.specs.Choice.{pick}
 use Rattle.quantities.specs.declared.refusals.Refusal.{Refusal}
-use Rattle.quantities.specs.declared.refusals.Refusal.TheVariants.{OutOfRange, WrongStage, AlreadyEnrolled, NotEnrolled, ForeignComponent, CountAgainstTime, ImpossibleMinutes, NotDeclared, AboveOffers, AboveBalance, NoWeight, AboveGreatestPower, ShortBuffer, NoRealDemand, OutOfOrder}
+use Rattle.quantities.specs.declared.refusals.Refusal.TheVariants.{OutOfRange, WrongStage, AlreadyEnrolled, NotEnrolled, ForeignComponent, CountAgainstTime, ImpossibleMinutes, NotDeclared, AboveOffers, AboveBalance, NoWeight, AboveGreatestPower, ShortBuffer, NoRealDemand, OutOfOrder, WideMark, AboveGreatestTotal}
 
 -- the column Number of the table
 abbrev pub refusal_number : Refusal → ℕ
@@ -21,6 +21,8 @@ refusal_number AboveGreatestPower = 14
 refusal_number ShortBuffer = 15
 refusal_number NoRealDemand = 16
 refusal_number OutOfOrder = 17
+refusal_number WideMark = 18
+refusal_number AboveGreatestTotal = 19
 
 -- the number that an answer meets: "A call is accepted if it returned 0."
 abbrev pub met : {A : Type 0} → Result A Refusal → ℕ

@@ -15,7 +15,7 @@ pub const UNITS: usize = 48;
 
 pub const PRODUCERS: usize = 16;
 
-pub const CONSUMERS: usize = 64;
+pub const CONSUMERS: usize = 300;
 
 // The greatest consumer that a record's field of one byte names.
 pub const BYTE_CONSUMERS: usize = 64;

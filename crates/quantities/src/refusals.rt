@@ -30,6 +30,10 @@ pub enum Refusal {
     NoRealDemand,
     // Of an outage log: a window or an entry whose end is not after its start, a window too long, or an entry out of order.
     OutOfOrder,
+    // In the converter: a mark for consumers above those that one byte names.
+    WideMark,
+    // Charges above what a division takes.
+    AboveGreatestTotal,
 }
 
 impl From<Refusal> for u32 {
@@ -52,6 +56,8 @@ impl From<Refusal> for u32 {
             Refusal::ShortBuffer => 15,
             Refusal::NoRealDemand => 16,
             Refusal::OutOfOrder => 17,
+            Refusal::WideMark => 18,
+            Refusal::AboveGreatestTotal => 19,
         }
     }
 }

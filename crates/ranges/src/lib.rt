@@ -30,6 +30,7 @@ fn rest_in_range(call: Call, readings: &[u8]) -> bool
 }
 
 // Refuses a call with a field, or what is lent with a test, out of range. The readings are lent beside the call, which is a value.
+#[inline(always)]
 #[tactic(auto, unfolding(table::specs::Ranges::fields_number, table::specs::Ranges::call_number))]
 pub fn check_call(call: Call, readings: &[u8]) -> Result<(), Refusal>
     ensures { met result ≡ call_number call readings.now }

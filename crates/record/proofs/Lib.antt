@@ -3,4 +3,5 @@ pub mod Reader
 pub mod Shows
 pub mod Writer
 pub mod RoundTrip
+pub mod Old
 pub mod Examples

@@ -1,8 +1,8 @@
 -- Reading: a record, the end of the journal, number 1 (cut short) or number 2 (unknown mark) ("Journal records", "Numbered replies").
-use Rattle.std.specs.Prelude.{List, [], ℕ, ◌+◌, ◌-◌, leb, ltb, length, take, drop, Option, None, Some}
+use Rattle.std.specs.Prelude.{Bool, false, List, [], ℕ, ◌+◌, ◌-◌, leb, ltb, length, take, drop, Option, None, Some}
 use Rattle.basis.specs.Choice.{pick}
 use Rattle.basis.specs.Numbers.{number_at}
-use Rattle.table.specs.Records.{call_of, readings_size, form_of, mark_at}
+use Rattle.table.specs.Records.{call_of, readings_size, form_of, mark_at, is_wide}
 use Rattle.table.specs.Fields.{decode}
 use Rattle.table.specs.declared.calls.Call.{Call}
 use Rattle.table.specs.declared.forms.Mark.{Mark}
@@ -37,6 +37,14 @@ stop_number End = 0
 stop_number Cut = 1
 stop_number Unknown = 2
 stop_number (Record c from next) = 0
+
+-- the two bytes at a place are a mark for consumers above 64
+abbrev pub is_wide_mark : Option Mark → Bool
+is_wide_mark None = false
+is_wide_mark (Some m) = is_wide m
+
+unfoldable pub wide_at : List ℕ → ℕ → Bool
+wide_at s at = is_wide_mark (mark_at (number_at 2 s at))
 
 -- the part of a journal between two places, empty where there is none
 unfoldable pub part_of : List ℕ → ℕ → ℕ → List ℕ

@@ -2,7 +2,7 @@
 ghost use Rattle.std.specs.Prelude.{◌≡◌, ◌<◌, length};
 ghost use Rattle.record.specs.Reading.{read_marked, read_at, stop_number, part_of};
 
-use table::{Call, Mark, call_of, form_of, mark_at, readings_size};
+use table::{Call, ConsumerField, Mark, call_of, form_of, mark_at, readings_size};
 
 // What stands at a place: nothing, a record that is cut short, an unknown mark, or a whole record. An enum, since one match names the four
 // cases: a Result of an Option would take two.
@@ -45,6 +45,7 @@ fn read_marked(journal: &[u8], at: usize, mark: Mark) -> Read
 }
 
 // The same, with a copy of the code for each mark, in which its widths are constants: a bar of speed binds the run.
+#[inline(always)]
 fn read_each(journal: &[u8], at: usize, mark: Mark) -> Read
     requires { at < length journal.now }
     ensures { result ≡ read_marked journal.now at mark }
@@ -54,17 +55,63 @@ fn read_each(journal: &[u8], at: usize, mark: Mark) -> Read
         Mark::Enrol => read_marked(journal, at, Mark::Enrol),
         Mark::Test => read_marked(journal, at, Mark::Test),
         Mark::Availability => read_marked(journal, at, Mark::Availability),
-        Mark::Declare => read_marked(journal, at, Mark::Declare),
+        Mark::Declare(ConsumerField::Narrow) => read_marked(
+            journal,
+            at,
+            Mark::Declare(ConsumerField::Narrow),
+        ),
+        Mark::Declare(ConsumerField::Wide) => read_marked(
+            journal,
+            at,
+            Mark::Declare(ConsumerField::Wide),
+        ),
         Mark::Fix => read_marked(journal, at, Mark::Fix),
-        Mark::Commit => read_marked(journal, at, Mark::Commit),
-        Mark::Release => read_marked(journal, at, Mark::Release),
-        Mark::Meter => read_marked(journal, at, Mark::Meter),
+        Mark::Commit(ConsumerField::Narrow) => read_marked(
+            journal,
+            at,
+            Mark::Commit(ConsumerField::Narrow),
+        ),
+        Mark::Commit(ConsumerField::Wide) => read_marked(
+            journal,
+            at,
+            Mark::Commit(ConsumerField::Wide),
+        ),
+        Mark::Release(ConsumerField::Narrow) => read_marked(
+            journal,
+            at,
+            Mark::Release(ConsumerField::Narrow),
+        ),
+        Mark::Release(ConsumerField::Wide) => read_marked(
+            journal,
+            at,
+            Mark::Release(ConsumerField::Wide),
+        ),
+        Mark::Meter(ConsumerField::Narrow) => read_marked(
+            journal,
+            at,
+            Mark::Meter(ConsumerField::Narrow),
+        ),
+        Mark::Meter(ConsumerField::Wide) => read_marked(
+            journal,
+            at,
+            Mark::Meter(ConsumerField::Wide),
+        ),
         Mark::Close => read_marked(journal, at, Mark::Close),
-        Mark::Mean => read_marked(journal, at, Mark::Mean),
+        Mark::Mean(ConsumerField::Narrow) => read_marked(
+            journal,
+            at,
+            Mark::Mean(ConsumerField::Narrow),
+        ),
+        Mark::Mean(ConsumerField::Wide) => read_marked(
+            journal,
+            at,
+            Mark::Mean(ConsumerField::Wide),
+        ),
     }
 }
 
 // What stands at a place of a journal; any journal and any place are taken. Each case has an answer of its own: a match, and no map.
+#[inline(always)]
 #[tactic(auto, using(crate::proofs::Reader::at_end, crate::proofs::Reader::at_one))]
 pub fn read_at(journal: &[u8], at: usize) -> Read
     ensures { result ≡ read_at journal.now at }

@@ -52,6 +52,11 @@ pub sum_fits : (ws : List ℕ) → all_at_most greatest_weight ws ≡ true → l
 sum_fits ws e h =
     omega (arith, sum_at_most greatest_weight ws (all_at_most_lem greatest_weight ws e), mul-le-mul_right greatest_weight h)
 
+-- .. of 32 bits even
+pub sum_small : (ws : List ℕ) → all_at_most greatest_weight ws ≡ true → length ws ≤ most_weights → sum ws < 2 ^ 32
+sum_small ws e h =
+    omega (arith, sum_at_most greatest_weight ws (all_at_most_lem greatest_weight ws e), mul-le-mul_right greatest_weight h)
+
 -- .. and so does a total in range times a weight
 pub product_fits : (T : ℕ) (ws : List ℕ) (i : ℕ) → T ≤ greatest_total → all_at_most greatest_weight ws ≡ true → T * get_or ws i 0 < 2 ^ 64
 product_fits T ws i h e = lt_of_le_of_lt (mul-le-mul h (all_at_most_lem greatest_weight ws e i)) (lit< tt)

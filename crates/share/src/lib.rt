@@ -39,7 +39,7 @@ pub fn divide(total: u64, weights: &[u64], amounts: &mut [u64]) -> Result<(), Re
 {
     check_division(total, weights, amounts.len())?;
     let n = weights.len();
-    let mut rest = [0u64; MOST_WEIGHTS];
+    let mut rest = [0u32; MOST_WEIGHTS];
     parts::share_out(total, weights, &mut amounts[..n], &mut rest[..n]);
     Ok(())
 }

@@ -22,18 +22,19 @@ pub(crate) fn sum_of(weights: &[u64]) -> u64
 }
 
 // The whole parts into the amounts, what they leave of each product into the rest; answers the units left over. Two slices, no slice
-// of pairs: the amounts are the caller's, the rest is room to work in of fixed size. No type of the weights that a division takes: two
-// functions ask for them.
+// of pairs: the amounts are the caller's, the rest is room to work in of fixed size, of 32 bits, which the sum of the weights does not exceed: the
+// largest of such is found in half the time. No type of the weights that a division takes: two functions ask for them.
 #[tactic(auto, using(crate::proofs::Accepted::product_fits, crate::proofs::Quotients::turn), unfolding(crate::specs::Division::whole_parts, crate::specs::Division::remainders))]
 pub(crate) fn whole_parts(
     total: u64,
     whole: u64,
     weights: &[u64],
     amounts: &mut [u64],
-    rest: &mut [u64],
+    rest: &mut [u32],
 ) -> u64
     requires total_le_greatest_total { (total ≤ greatest_total) × (all_at_most greatest_weight weights.now ≡ true) }
     requires whole_nonzero { (0 < whole) × (whole ≡ sum weights.now) }
+    requires whole_small { whole < 2 ^ 32 }
     requires amounts_len { (length amounts.old ≡ length weights.now) × (length rest.old ≡ length weights.now) }
     ensures value { result ≡ total - sum (whole_parts total whole weights.now) }
     ensures amounts_after { amounts.new ≡ whole_parts total whole weights.now }
@@ -45,14 +46,14 @@ pub(crate) fn whole_parts(
         let product = total * *weight;
         let part = product / whole;
         amounts[i] = part;
-        rest[i] = product % whole;
+        rest[i] = (product % whole) as u32;
         left -= part;
     }
     left
 }
 
 // The place of the largest, the lowest of several.
-pub(crate) fn largest_of(rest: &[u64]) -> usize
+pub(crate) fn largest_of(rest: &[u32]) -> usize
     requires { 0 < length rest.now }
     ensures { (result ≡ largest rest.now) × (result < length rest.now) }
 {
@@ -64,7 +65,7 @@ pub(crate) fn largest_of(rest: &[u64]) -> usize
 
 // Gives the units left over singly to the largest of the rest, which is then struck. Two slices, as above.
 #[tactic(auto, using(crate::proofs::Units::giving), unfolding(crate::specs::Division::give))]
-pub(crate) fn give_left(left: u64, amounts: &mut [u64], rest: &mut [u64])
+pub(crate) fn give_left(left: u64, amounts: &mut [u64], rest: &mut [u32])
     requires amounts_len { (length amounts.old ≡ length rest.old) × (0 < length rest.old) }
     requires left_bound { sum amounts.old + left ≤ greatest_total }
     ensures { amounts.new ≡ give left amounts.old rest.old }
@@ -78,7 +79,7 @@ pub(crate) fn give_left(left: u64, amounts: &mut [u64], rest: &mut [u64])
 
 // The amounts of an accepted division, one for each weight. Two slices, no slice of pairs: the amounts are the caller's, the rest is
 // room to work in of fixed size. No type of the weights that a division takes: two functions ask for them.
-pub(crate) fn share_out(total: u64, weights: &[u64], amounts: &mut [u64], rest: &mut [u64])
+pub(crate) fn share_out(total: u64, weights: &[u64], amounts: &mut [u64], rest: &mut [u32])
     requires amounts_value { division_number total weights.now (length amounts.old) ≡ 0 }
     requires amounts_len { (length amounts.old ≡ length weights.now) × (length rest.old ≡ length weights.now) }
     ensures { amounts.new ≡ shares total weights.now }

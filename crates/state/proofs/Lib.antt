@@ -1,3 +1,4 @@
--- Laws of replies and of places.
+-- Laws of replies, of places, and of the cells of balances.
 pub mod Replies
 pub mod Placed
+pub mod Cells

@@ -33,6 +33,7 @@ pub fn check_stage(stage: Stage, own: Stage) -> Result<(), Refusal>
 }
 
 // What bars a call before what it concerns is asked: a field out of range, then a stage that is not its own.
+#[inline(always)]
 pub fn check_open(call: Call, stage: Stage, own: Stage) -> Result<(), Refusal>
     ensures { met result ≡ ranged call [] (staged own stage 0) }
 {

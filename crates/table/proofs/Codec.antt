@@ -21,7 +21,7 @@ use Rattle.basis.proofs.Sums.{sum-cons}
 use Rattle.basis.proofs.Numbers.{length-bytes_of, number-bytes_of, bytes_of-number, bytes_take, bytes_drop}
 use Rattle.table.specs.Fields.{encode, decode, within_all}
 use Rattle.table.specs.Records.{widths_of}
-use Rattle.table.specs.declared.lines.Column.{Column}
+use Rattle.table.specs.declared.columns.Column.{Column}
 
 -- each greatest value fits its width
 abbrev pub fit_all : List Column → Bool

@@ -3,7 +3,7 @@ use Rattle.std.specs.Prelude.{Bool, List, [], ◌∷◌, ◌++◌, ℕ, take, dr
 use Rattle.std.specs.List.{list_all, zip}
 use Rattle.basis.specs.Choice.{between}
 use Rattle.basis.specs.Numbers.{number, bytes_of}
-use Rattle.table.specs.declared.lines.Column.{Column}
+use Rattle.table.specs.declared.columns.Column.{Column}
 
 -- the bytes of values in their widths
 unfoldable pub encode : List ℕ → List ℕ → List ℕ

@@ -2,3 +2,4 @@
 pub mod Records
 pub mod Fields
 pub mod Ranges
+pub mod Old

@@ -1,15 +1,19 @@
 -- Number 3: the ranges of a call's fields, and of the readings lent with a test ("Journal records", "Numbered replies").
-use Rattle.std.specs.Prelude.{Bool, true, false, not, List, ℕ, eqb}
+use Rattle.std.specs.Prelude.{Bool, true, false, not, List, ◌∷◌, ℕ, eqb, drop}
 use Rattle.basis.specs.Choice.{pick, between}
+use Rattle.quantities.specs.Limits.{producers, consumers}
 use Rattle.quantities.specs.Flags.{injection_given, report_held, flagged}
 use Rattle.power.specs.Ranges.{test_in_range}
-use Rattle.table.specs.Records.{table_of, parts_of, form_of}
+use Rattle.table.specs.Records.{column, table_of, parts_of, form_of}
 use Rattle.table.specs.Fields.{within_all}
 use Rattle.table.specs.declared.calls.Call.{Call}
 use Rattle.table.specs.declared.calls.Call.TheVariants.{Year, Fix, Close, Unit, Consumer, Contract}
 use Rattle.table.specs.declared.units.Enrolling.{Enrolling}
 use Rattle.table.specs.declared.units.UnitCall.{UnitCall}
 use Rattle.table.specs.declared.units.UnitCall.TheVariants.{Enrol, Test, Availability}
+use Rattle.table.specs.declared.columns.Column.{Column}
+use Rattle.table.specs.declared.forms.Mark.{Mark}
+use Rattle.table.specs.declared.forms.Mark.TheVariants as mark
 use Rattle.table.specs.declared.forms.Fields.{Fields}
 use Rattle.table.specs.declared.forms.Uses.{Uses}
 
@@ -75,3 +79,20 @@ call_number c readings = pick (eqb (fields_number c) 0) (pick (rest_in_range c r
 -- a call's fields as its record has them: the form and the values
 unfoldable pub fields_of : Call → Fields
 fields_of c = record { form = form_of (parts_of c).mark; values = (parts_of c).values }
+
+-- a step of the program: the columns in which a call's fields are tested, with one for the consumer of either record
+abbrev pub either_consumer : Column
+either_consumer = column 2 1 consumers
+
+unfoldable pub call_columns : Mark → List Column
+call_columns mark.Year = (table_of mark.Year).columns
+call_columns mark.Enrol = (table_of mark.Enrol).columns
+call_columns mark.Test = (table_of mark.Test).columns
+call_columns mark.Availability = (table_of mark.Availability).columns
+call_columns (mark.Declare f) = either_consumer ∷ drop 1 (table_of (mark.Declare f)).columns
+call_columns mark.Fix = (table_of mark.Fix).columns
+call_columns (mark.Commit f) = column 1 1 producers ∷ either_consumer ∷ drop 2 (table_of (mark.Commit f)).columns
+call_columns (mark.Release f) = column 1 1 producers ∷ either_consumer ∷ drop 2 (table_of (mark.Release f)).columns
+call_columns (mark.Meter f) = either_consumer ∷ drop 1 (table_of (mark.Meter f)).columns
+call_columns mark.Close = (table_of mark.Close).columns
+call_columns (mark.Mean f) = either_consumer ∷ drop 1 (table_of (mark.Mean f)).columns

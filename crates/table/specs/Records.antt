@@ -1,14 +1,17 @@
 -- The table of "Journal records", and behind it the records of document 02: the mark of each record, the width and range of each of its fields, the call that it is, and the calls' names.
-use Rattle.std.specs.Prelude.{Bool, List, [], ◌∷◌, ◌++◌, map, ℕ, ◌+◌, ◌-◌, ◌*◌, eqb, length, get_or, replicate, Option}
+use Rattle.std.specs.Prelude.{Bool, true, false, List, [], ◌∷◌, ◌++◌, map, ℕ, suc, ◌+◌, ◌-◌, ◌*◌, eqb, leb, length, get_or, replicate, Option}
 use Rattle.std.specs.List.{find}
+use Rattle.basis.specs.Choice.{pick, between}
 use Rattle.basis.specs.Sums.{sum}
-use Rattle.quantities.specs.Limits.{units, producers, byte_consumers, greatest_power, greatest_energy, greatest_minutes, greatest_hours, greatest_day_hours, greatest_kind, greatest_component, greatest_ending, least_time, greatest_time, greatest_count, greatest_price}
+use Rattle.quantities.specs.Limits.{units, producers, consumers, byte_consumers, greatest_power, greatest_energy, greatest_minutes, greatest_hours, greatest_day_hours, greatest_kind, greatest_component, greatest_ending, least_time, greatest_time, greatest_count, greatest_price}
 use Rattle.quantities.specs.Flags.{all_flags}
 use Rattle.table.specs.declared.forms.Form.{Form}
+use Rattle.table.specs.declared.forms.ConsumerField.{ConsumerField}
+use Rattle.table.specs.declared.forms.ConsumerField.TheVariants.{Narrow, Wide}
 use Rattle.table.specs.declared.forms.Mark.{Mark}
 use Rattle.table.specs.declared.forms.Mark.TheVariants as mark
 use Rattle.table.specs.declared.parts.Parts.{Parts}
-use Rattle.table.specs.declared.lines.Column.{Column}
+use Rattle.table.specs.declared.columns.Column.{Column}
 use Rattle.table.specs.declared.lines.Line.{Line}
 use Rattle.table.specs.declared.units.UnitCall.TheVariants as unit-call
 use Rattle.table.specs.declared.consumers.ConsumerCall.TheVariants as consumer-call
@@ -39,6 +42,16 @@ line first second columns reading =
       columns = columns ++ replicate (most_fields - length columns) no_column;
       reading = reading;
     }
+
+-- a consumer's field: of one byte up to 64, of two bytes for "[c]onsumers above 64", which "takes 65 to 300 only, so each call has one record form" (document 02, A7)
+abbrev pub consumer_column : ConsumerField → Column
+consumer_column Narrow = column 1 1 byte_consumers
+consumer_column Wide = column 2 (suc byte_consumers) consumers
+
+-- a byte of a mark, and the one in its place for consumers above 64
+abbrev pub by_field : ConsumerField → ℕ → ℕ → ℕ
+by_field Narrow byte above = byte
+by_field Wide byte above = above
 
 -- the table, line by line
 unfoldable pub table_of : Mark → Line
@@ -72,27 +85,63 @@ table_of mark.Availability =
     ∷ column 4 0 greatest_minutes
     ∷ []) 0
 -- declare: consumer, D, A
-table_of mark.Declare =
-    line 0x44 0x4D (column 1 1 byte_consumers ∷ column 4 0 greatest_power ∷ column 4 0 greatest_power ∷ []) 0
+table_of (mark.Declare f) =
+    line (by_field f 0x44 0x64) (by_field f 0x4D 0x6D) (consumer_column f ∷ column 4 0 greatest_power ∷ column 4 0 greatest_power ∷ []) 0
 -- fix: DMP
 table_of mark.Fix = line 0x46 0x58 (column 4 1 greatest_power ∷ []) 0
 -- commit: producer, consumer, q
-table_of mark.Commit =
-    line 0x43 0x4D (column 1 1 producers ∷ column 1 1 byte_consumers ∷ column 4 1 greatest_power ∷ []) 0
+table_of (mark.Commit f) =
+    line (by_field f 0x43 0x63) (by_field f 0x4D 0x6D) (column 1 1 producers ∷ consumer_column f ∷ column 4 1 greatest_power ∷ []) 0
 -- release: as commit
-table_of mark.Release =
-    line 0x52 0x4C (column 1 1 producers ∷ column 1 1 byte_consumers ∷ column 4 1 greatest_power ∷ []) 0
+table_of (mark.Release f) =
+    line (by_field f 0x52 0x72) (by_field f 0x4C 0x6C) (column 1 1 producers ∷ consumer_column f ∷ column 4 1 greatest_power ∷ []) 0
 -- meter: consumer, Dreal
-table_of mark.Meter = line 0x4D 0x54 (column 1 1 byte_consumers ∷ column 4 0 greatest_power ∷ []) 0
+table_of (mark.Meter f) =
+    line (by_field f 0x4D 0x6D) (by_field f 0x54 0x74) (consumer_column f ∷ column 4 0 greatest_power ∷ []) 0
 -- close: P
 table_of mark.Close = line 0x43 0x4C (column 2 1 greatest_price ∷ []) 0
 -- mean (document 02, A4): consumer, mean
-table_of mark.Mean = line 0x41 0x54 (column 1 1 byte_consumers ∷ column 4 0 greatest_power ∷ []) 0
+table_of (mark.Mean f) =
+    line (by_field f 0x41 0x61) (by_field f 0x54 0x74) (consumer_column f ∷ column 4 0 greatest_power ∷ []) 0
 
 -- the records that there are
 abbrev pub marks : List Mark
 marks =
-    mark.Year ∷ mark.Enrol ∷ mark.Test ∷ mark.Availability ∷ mark.Declare ∷ mark.Fix ∷ mark.Commit ∷ mark.Release ∷ mark.Meter ∷ mark.Close ∷ mark.Mean ∷ []
+    mark.Year
+    ∷ mark.Enrol
+    ∷ mark.Test
+    ∷ mark.Availability
+    ∷ mark.Declare Narrow
+    ∷ mark.Fix
+    ∷ mark.Commit Narrow
+    ∷ mark.Release Narrow
+    ∷ mark.Meter Narrow
+    ∷ mark.Close
+    ∷ mark.Mean Narrow
+    ∷ mark.Declare Wide
+    ∷ mark.Commit Wide
+    ∷ mark.Release Wide
+    ∷ mark.Meter Wide
+    ∷ mark.Mean Wide
+    ∷ []
+
+-- the mark is one for consumers above 64
+abbrev pub is_wide_field : ConsumerField → Bool
+is_wide_field Narrow = false
+is_wide_field Wide = true
+
+abbrev pub is_wide : Mark → Bool
+is_wide mark.Year = false
+is_wide mark.Enrol = false
+is_wide mark.Test = false
+is_wide mark.Availability = false
+is_wide (mark.Declare f) = is_wide_field f
+is_wide mark.Fix = false
+is_wide (mark.Commit f) = is_wide_field f
+is_wide (mark.Release f) = is_wide_field f
+is_wide (mark.Meter f) = is_wide_field f
+is_wide mark.Close = false
+is_wide (mark.Mean f) = is_wide_field f
 
 -- the widths of columns
 abbrev pub widths_of : List Column → List ℕ
@@ -119,6 +168,10 @@ zeros n = replicate n 0
 abbrev pub parts : Mark → List ℕ → Parts
 parts m vs = record { mark = m; values = vs }
 
+-- the field that a consumer's record has
+abbrev pub consumer_field : ℕ → ConsumerField
+consumer_field consumer = pick (leb consumer byte_consumers) Narrow Wide
+
 -- the mark follows from the call's own fields
 unfoldable pub parts_of : Call → Parts
 parts_of (call.Year h) = parts mark.Year (h.nhrm ∷ h.nhmd ∷ h.ndhmd ∷ zeros 6)
@@ -128,15 +181,19 @@ parts_of (call.Unit unit (unit-call.Test component t)) =
     parts mark.Test (unit ∷ component ∷ t.ending ∷ t.tc ∷ t.count ∷ zeros 4)
 parts_of (call.Unit unit (unit-call.Availability component m)) =
     parts mark.Availability (unit ∷ component ∷ m.hd ∷ m.hmp ∷ m.hif ∷ m.hed ∷ zeros 3)
-parts_of (call.Consumer consumer (consumer-call.Declare d a)) = parts mark.Declare (consumer ∷ d ∷ a ∷ zeros 6)
+parts_of (call.Consumer consumer (consumer-call.Declare d a)) = parts (mark.Declare (consumer_field consumer)) (consumer ∷ d ∷ a ∷ zeros 6)
 parts_of (call.Fix dmp) = parts mark.Fix (dmp ∷ zeros 8)
 parts_of (call.Contract producer consumer (contract-call.Commit q)) =
-    parts mark.Commit (producer ∷ consumer ∷ q ∷ zeros 6)
+    parts (mark.Commit (consumer_field consumer)) (producer ∷ consumer ∷ q ∷ zeros 6)
 parts_of (call.Contract producer consumer (contract-call.Release q)) =
-    parts mark.Release (producer ∷ consumer ∷ q ∷ zeros 6)
-parts_of (call.Consumer consumer (consumer-call.Meter dreal)) = parts mark.Meter (consumer ∷ dreal ∷ zeros 7)
+    parts (mark.Release (consumer_field consumer)) (producer ∷ consumer ∷ q ∷ zeros 6)
+parts_of (call.Consumer consumer (consumer-call.Meter dreal)) = parts (mark.Meter (consumer_field consumer)) (consumer ∷ dreal ∷ zeros 7)
 parts_of (call.Close p) = parts mark.Close (p ∷ zeros 8)
-parts_of (call.Consumer consumer (consumer-call.Mean mean)) = parts mark.Mean (consumer ∷ mean ∷ zeros 7)
+parts_of (call.Consumer consumer (consumer-call.Mean mean)) = parts (mark.Mean (consumer_field consumer)) (consumer ∷ mean ∷ zeros 7)
+
+-- the consumer that a field names: where the number is out of the field's range 0, which is in no record's range
+abbrev pub consumer_named : ConsumerField → ℕ → ℕ
+consumer_named f number = pick (between (consumer_column f).least (consumer_column f).greatest number) number 0
 
 -- the call of a record with these values; with values out of the record's range, a call out of range
 unfoldable pub call_of : Mark → List ℕ → Call
@@ -159,13 +216,13 @@ call_of mark.Test v =
 call_of mark.Availability v =
     call.Unit (get_or v 0 0) (unit-call.Availability (get_or v 1 0)
     (record { hd = get_or v 2 0; hmp = get_or v 3 0; hif = get_or v 4 0; hed = get_or v 5 0 }))
-call_of mark.Declare v = call.Consumer (get_or v 0 0) (consumer-call.Declare (get_or v 1 0) (get_or v 2 0))
+call_of (mark.Declare f) v = call.Consumer (consumer_named f (get_or v 0 0)) (consumer-call.Declare (get_or v 1 0) (get_or v 2 0))
 call_of mark.Fix v = call.Fix (get_or v 0 0)
-call_of mark.Commit v = call.Contract (get_or v 0 0) (get_or v 1 0) (contract-call.Commit (get_or v 2 0))
-call_of mark.Release v = call.Contract (get_or v 0 0) (get_or v 1 0) (contract-call.Release (get_or v 2 0))
-call_of mark.Meter v = call.Consumer (get_or v 0 0) (consumer-call.Meter (get_or v 1 0))
+call_of (mark.Commit f) v = call.Contract (get_or v 0 0) (consumer_named f (get_or v 1 0)) (contract-call.Commit (get_or v 2 0))
+call_of (mark.Release f) v = call.Contract (get_or v 0 0) (consumer_named f (get_or v 1 0)) (contract-call.Release (get_or v 2 0))
+call_of (mark.Meter f) v = call.Consumer (consumer_named f (get_or v 0 0)) (consumer-call.Meter (get_or v 1 0))
 call_of mark.Close v = call.Close (get_or v 0 0)
-call_of mark.Mean v = call.Consumer (get_or v 0 0) (consumer-call.Mean (get_or v 1 0))
+call_of (mark.Mean f) v = call.Consumer (consumer_named f (get_or v 0 0)) (consumer-call.Mean (get_or v 1 0))
 
 -- the place of the count of readings among the fields
 abbrev pub count_place : ℕ

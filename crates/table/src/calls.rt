@@ -2,6 +2,7 @@
 ghost use Rattle.table.specs.Records.{call_of};
 ghost use Rattle.std.specs.Prelude.{◌≡◌};
 
+use crate::columns::consumer_named;
 use crate::consumers::ConsumerCall;
 use crate::contracts::ContractCall;
 use crate::forms::Mark;
@@ -38,6 +39,7 @@ pub enum Call {
 impl From<Parts> for Call {
     ghost from_gives = { λ parts call. call ≡ call_of parts.mark parts.values };
 
+    #[inline(always)]
     #[tactic(auto, unfolding(crate::specs::Records::call_of))]
     fn from(parts: Parts) -> Call {
         let Parts { mark, values } = parts;
@@ -70,29 +72,29 @@ impl From<Parts> for Call {
                     minutes: Minutes { hd, hmp, hif, hed },
                 },
             },
-            (Mark::Declare, [consumer, d, a, ..]) => Call::Consumer {
-                consumer,
+            (Mark::Declare(field), [number, d, a, ..]) => Call::Consumer {
+                consumer: consumer_named(field, number),
                 act: ConsumerCall::Declare { d, a },
             },
             (Mark::Fix, [dmp, ..]) => Call::Fix { dmp },
             // Commit and release apart: each call has its arm, as its record has a mark of its own.
-            (Mark::Commit, [producer, consumer, q, ..]) => Call::Contract {
+            (Mark::Commit(field), [producer, number, q, ..]) => Call::Contract {
                 producer,
-                consumer,
+                consumer: consumer_named(field, number),
                 act: ContractCall::Commit { q },
             },
-            (Mark::Release, [producer, consumer, q, ..]) => Call::Contract {
+            (Mark::Release(field), [producer, number, q, ..]) => Call::Contract {
                 producer,
-                consumer,
+                consumer: consumer_named(field, number),
                 act: ContractCall::Release { q },
             },
-            (Mark::Meter, [consumer, dreal, ..]) => Call::Consumer {
-                consumer,
+            (Mark::Meter(field), [number, dreal, ..]) => Call::Consumer {
+                consumer: consumer_named(field, number),
                 act: ConsumerCall::Meter { dreal },
             },
             (Mark::Close, [p, ..]) => Call::Close { p },
-            (Mark::Mean, [consumer, mean, ..]) => Call::Consumer {
-                consumer,
+            (Mark::Mean(field), [number, mean, ..]) => Call::Consumer {
+                consumer: consumer_named(field, number),
                 act: ConsumerCall::Mean { mean },
             },
         }

@@ -2,6 +2,7 @@
 #![tactic(auto)]
 
 mod calls; // calls.rt: the calls by what they concern
+mod columns; // columns.rt: the width and the range of each field
 mod consumers; // consumers.rt: what is told of a consumer
 mod contracts; // contracts.rt: what is done to a contract
 mod forms; // forms.rt: the marks, the form of a record, a call's fields
@@ -13,6 +14,6 @@ mod units; // units.rt: what is asked of a unit
 pub use calls::Call;
 pub use consumers::ConsumerCall;
 pub use contracts::ContractCall;
-pub use forms::{FIELDS, Fields, Form, Mark, Uses};
+pub use forms::{ConsumerField, FIELDS, Fields, Form, Mark, Uses};
 pub use records::{call_of, check_fields, fields_of, form_of, mark_at, readings_size};
 pub use units::{Enrolling, UnitCall};

@@ -1,31 +1,13 @@
-// The table, line by line: the mark of each record, and the width and range of each of its fields.
+// The table, line by line: the mark of each record, and its fields.
 ghost use Rattle.std.specs.Prelude.{◌≡◌};
-ghost use Rattle.basis.specs.Choice.{between};
 ghost use Rattle.table.specs.Records.{table_of};
+ghost use Rattle.table.specs.Ranges.{call_columns};
 
-use crate::forms::{FIELDS, Mark};
-use quantities::{
-    ALL_FLAGS, GREATEST_COMPONENT, GREATEST_COUNT, GREATEST_DAY_HOURS, GREATEST_ENDING,
-    GREATEST_ENERGY, GREATEST_HOURS, GREATEST_KIND, GREATEST_MINUTES, GREATEST_POWER,
-    GREATEST_PRICE, GREATEST_TIME, LEAST_TIME,
+use crate::columns::{
+    AMOUNT, COMPONENT, CONSUMER, COUNT, Column, DAY_HOURS, EITHER, ENDING, ENERGY, FLAGS,
+    FULL_TIME, HOURS, KIND, MINUTES, NONE, POWER, PRICE, PRODUCER, UNIT, WIDE,
 };
-
-// A field's column: its width in bytes, its least and its greatest value.
-#[derive(Clone, Copy, Debug, PartialEq, Eq)]
-pub struct Column {
-    pub width: usize,
-    pub least: u32,
-    pub greatest: u32,
-}
-
-impl Column {
-    // The value stands from the least to the greatest.
-    pub fn holds(self, value: u32) -> bool
-        ensures { result ≡ between self.least self.greatest value }
-    {
-        (self.least..=self.greatest).contains(&value)
-    }
-}
+use crate::forms::{ConsumerField, FIELDS, Mark};
 
 // A record's line: its mark, low byte first, its columns, and the bytes of each reading behind the fields, 0 where there are none.
 #[derive(Clone, Copy, Debug, PartialEq, Eq)]
@@ -37,106 +19,6 @@ pub struct Line {
 
 // The bytes of a reading.
 pub const READING: usize = 4;
-
-// No field: a column of width 0, no Option: its bytes and its range are 0, so that one zip over nine columns serves every record.
-const NONE: Column = Column {
-    width: 0,
-    least: 0,
-    greatest: 0,
-};
-
-const HOURS: Column = Column {
-    width: 2,
-    least: 1,
-    greatest: GREATEST_HOURS,
-};
-
-const DAY_HOURS: Column = Column {
-    width: 1,
-    least: 1,
-    greatest: GREATEST_DAY_HOURS,
-};
-
-const UNIT: Column = Column {
-    width: 1,
-    least: 1,
-    greatest: quantities::UNITS as u32,
-};
-
-const PRODUCER: Column = Column {
-    width: 1,
-    least: 1,
-    greatest: quantities::PRODUCERS as u32,
-};
-
-const CONSUMER: Column = Column {
-    width: 1,
-    least: 1,
-    greatest: quantities::BYTE_CONSUMERS as u32,
-};
-
-const KIND: Column = Column {
-    width: 1,
-    least: 1,
-    greatest: GREATEST_KIND,
-};
-
-const FLAGS: Column = Column {
-    width: 1,
-    least: 0,
-    greatest: ALL_FLAGS,
-};
-
-const COMPONENT: Column = Column {
-    width: 1,
-    least: 0,
-    greatest: GREATEST_COMPONENT,
-};
-
-const ENDING: Column = Column {
-    width: 1,
-    least: 0,
-    greatest: GREATEST_ENDING,
-};
-
-const FULL_TIME: Column = Column {
-    width: 1,
-    least: LEAST_TIME,
-    greatest: GREATEST_TIME,
-};
-
-const COUNT: Column = Column {
-    width: 1,
-    least: 0,
-    greatest: GREATEST_COUNT,
-};
-
-const MINUTES: Column = Column {
-    width: 4,
-    least: 0,
-    greatest: GREATEST_MINUTES,
-};
-
-const ENERGY: Column = Column {
-    width: 4,
-    least: 0,
-    greatest: GREATEST_ENERGY,
-};
-
-const POWER: Column = Column {
-    width: 4,
-    least: 0,
-    greatest: GREATEST_POWER,
-};
-
-// A power that is not 0.
-const AMOUNT: Column = Column { least: 1, ..POWER };
-
-const PRICE: Column = Column {
-    width: 2,
-    least: 1,
-    greatest: GREATEST_PRICE,
-};
 
 // 59 52 is 0x5259.
 const YEAR: Line = Line {
@@ -211,7 +93,37 @@ const MEAN: Line = Line {
     ..METER
 };
 
+// Those of consumers above 64: 64 6D is 0x6D64.
+const WIDE_DECLARE: Line = Line {
+    mark: 0x6D64,
+    columns: [WIDE, POWER, POWER, NONE, NONE, NONE, NONE, NONE, NONE],
+    reading: 0,
+};
+
+const WIDE_COMMIT: Line = Line {
+    mark: 0x6D63,
+    columns: [PRODUCER, WIDE, AMOUNT, NONE, NONE, NONE, NONE, NONE, NONE],
+    reading: 0,
+};
+
+const WIDE_RELEASE: Line = Line {
+    mark: 0x6C72,
+    ..WIDE_COMMIT
+};
+
+const WIDE_METER: Line = Line {
+    mark: 0x746D,
+    columns: [WIDE, POWER, NONE, NONE, NONE, NONE, NONE, NONE, NONE],
+    reading: 0,
+};
+
+const WIDE_MEAN: Line = Line {
+    mark: 0x7461,
+    ..WIDE_METER
+};
+
 // The line of a record.
+#[inline(always)]
 #[tactic(auto, unfolding(crate::specs::Records::table_of))]
 pub fn line_of(mark: Mark) -> Line
     ensures { result ≡ table_of mark }
@@ -221,12 +133,39 @@ pub fn line_of(mark: Mark) -> Line
         Mark::Enrol => ENROL,
         Mark::Test => TEST,
         Mark::Availability => AVAILABILITY,
-        Mark::Declare => DECLARE,
+        Mark::Declare(ConsumerField::Narrow) => DECLARE,
+        Mark::Declare(ConsumerField::Wide) => WIDE_DECLARE,
         Mark::Fix => FIX,
-        Mark::Commit => COMMIT,
-        Mark::Release => RELEASE,
-        Mark::Meter => METER,
+        Mark::Commit(ConsumerField::Narrow) => COMMIT,
+        Mark::Commit(ConsumerField::Wide) => WIDE_COMMIT,
+        Mark::Release(ConsumerField::Narrow) => RELEASE,
+        Mark::Release(ConsumerField::Wide) => WIDE_RELEASE,
+        Mark::Meter(ConsumerField::Narrow) => METER,
+        Mark::Meter(ConsumerField::Wide) => WIDE_METER,
         Mark::Close => CLOSE,
-        Mark::Mean => MEAN,
+        Mark::Mean(ConsumerField::Narrow) => MEAN,
+        Mark::Mean(ConsumerField::Wide) => WIDE_MEAN,
+    }
+}
+
+// The columns in which the fields of a call of a record are tested: one for the consumer of either record, since a call's own consumer picks the
+// record. So they are constant for each call, and a bar of speed binds the run.
+#[inline(always)]
+#[tactic(auto, unfolding(crate::specs::Ranges::call_columns, crate::specs::Records::table_of))]
+pub fn call_columns(mark: Mark) -> [Column; FIELDS]
+    ensures { result ≡ call_columns mark }
+{
+    match mark {
+        Mark::Declare(_) => [EITHER, POWER, POWER, NONE, NONE, NONE, NONE, NONE, NONE],
+        Mark::Commit(_) | Mark::Release(_) => [
+            PRODUCER, EITHER, AMOUNT, NONE, NONE, NONE, NONE, NONE, NONE,
+        ],
+        Mark::Meter(_) | Mark::Mean(_) => [EITHER, POWER, NONE, NONE, NONE, NONE, NONE, NONE, NONE],
+        Mark::Year => YEAR.columns,
+        Mark::Enrol => ENROL.columns,
+        Mark::Test => TEST.columns,
+        Mark::Availability => AVAILABILITY.columns,
+        Mark::Fix => FIX.columns,
+        Mark::Close => CLOSE.columns,
     }
 }

@@ -3,6 +3,7 @@ ghost use Rattle.table.specs.Records.{parts_of};
 ghost use Rattle.std.specs.Prelude.{◌≡◌};
 
 use crate::calls::Call;
+use crate::columns::consumer_field;
 use crate::consumers::ConsumerCall;
 use crate::contracts::ContractCall;
 use crate::forms::{FIELDS, Mark};
@@ -18,6 +19,7 @@ pub struct Parts {
 impl From<Call> for Parts {
     ghost from_gives = { λ call parts. parts ≡ parts_of call };
 
+    #[inline(always)]
     #[tactic(auto, unfolding(crate::specs::Records::parts_of))]
     fn from(call: Call) -> Parts {
         match call {
@@ -66,21 +68,21 @@ impl From<Call> for Parts {
                 consumer,
                 act: ConsumerCall::Declare { d, a },
             } => Parts {
-                mark: Mark::Declare,
+                mark: Mark::Declare(consumer_field(consumer)),
                 values: [consumer, d, a, 0, 0, 0, 0, 0, 0],
             },
             Call::Consumer {
                 consumer,
                 act: ConsumerCall::Meter { dreal },
             } => Parts {
-                mark: Mark::Meter,
+                mark: Mark::Meter(consumer_field(consumer)),
                 values: [consumer, dreal, 0, 0, 0, 0, 0, 0, 0],
             },
             Call::Consumer {
                 consumer,
                 act: ConsumerCall::Mean { mean },
             } => Parts {
-                mark: Mark::Mean,
+                mark: Mark::Mean(consumer_field(consumer)),
                 values: [consumer, mean, 0, 0, 0, 0, 0, 0, 0],
             },
             // Commit and release apart: each call has its arm, as its record has a mark of its own.
@@ -89,7 +91,7 @@ impl From<Call> for Parts {
                 consumer,
                 act: ContractCall::Commit { q },
             } => Parts {
-                mark: Mark::Commit,
+                mark: Mark::Commit(consumer_field(consumer)),
                 values: [producer, consumer, q, 0, 0, 0, 0, 0, 0],
             },
             Call::Contract {
@@ -97,7 +99,7 @@ impl From<Call> for Parts {
                 consumer,
                 act: ContractCall::Release { q },
             } => Parts {
-                mark: Mark::Release,
+                mark: Mark::Release(consumer_field(consumer)),
                 values: [producer, consumer, q, 0, 0, 0, 0, 0, 0],
             },
         }

@@ -7,39 +7,42 @@ ghost use Rattle.table.specs.Records.{widest, mark_at, form_of, call_of, reading
 ghost use Rattle.table.specs.Ranges.{fields_of, fields_number};
 
 use crate::calls::Call;
-use crate::forms::{FIELDS, Fields, Form, Mark};
-use crate::lines::{Column, READING, line_of};
+use crate::columns::Column;
+use crate::forms::{ConsumerField, FIELDS, Fields, Form, Mark};
+use crate::lines::{READING, call_columns, line_of};
 use crate::parts::Parts;
 use crate::units::UnitCall;
 use quantities::Refusal;
 
-// All records.
-const MARKS: [Mark; 11] = [
-    Mark::Year,
-    Mark::Enrol,
-    Mark::Test,
-    Mark::Availability,
-    Mark::Declare,
-    Mark::Fix,
-    Mark::Commit,
-    Mark::Release,
-    Mark::Meter,
-    Mark::Close,
-    Mark::Mean,
-];
-
-// The record whose mark is the number.
-#[tactic(auto, unfolding(crate::specs::Records::mark_at))]
+// The record whose mark is the number, low byte first: a match, since a search through the lines takes several times as long, and a bar of speed
+// binds the run. The contract holds it to the table.
+#[tactic(auto, unfolding(crate::specs::Records::mark_at, crate::specs::Records::table_of))]
 pub fn mark_at(number: u32) -> Option<Mark>
     ensures { result ≡ mark_at number }
 {
-    MARKS
-        .iter()
-        .copied()
-        .find(|mark| line_of(*mark).mark == number)
+    match number {
+        0x5259 => Some(Mark::Year),
+        0x4E55 => Some(Mark::Enrol),
+        0x5354 => Some(Mark::Test),
+        0x5641 => Some(Mark::Availability),
+        0x4D44 => Some(Mark::Declare(ConsumerField::Narrow)),
+        0x5846 => Some(Mark::Fix),
+        0x4D43 => Some(Mark::Commit(ConsumerField::Narrow)),
+        0x4C52 => Some(Mark::Release(ConsumerField::Narrow)),
+        0x544D => Some(Mark::Meter(ConsumerField::Narrow)),
+        0x4C43 => Some(Mark::Close),
+        0x5441 => Some(Mark::Mean(ConsumerField::Narrow)),
+        0x6D64 => Some(Mark::Declare(ConsumerField::Wide)),
+        0x6D63 => Some(Mark::Commit(ConsumerField::Wide)),
+        0x6C72 => Some(Mark::Release(ConsumerField::Wide)),
+        0x746D => Some(Mark::Meter(ConsumerField::Wide)),
+        0x7461 => Some(Mark::Mean(ConsumerField::Wide)),
+        _ => None,
+    }
 }
 
-// The form of a record.
+// The form of a record. It is made where it is asked for, as the functions below, since for a known mark it is constant.
+#[inline(always)]
 #[tactic(auto, unfolding(crate::specs::Records::form_of))]
 pub fn form_of(mark: Mark) -> Form
     ensures { result ≡ form_of mark }
@@ -63,6 +66,7 @@ fn number_of(field: &[u8]) -> u32
 
 // The values that bytes hold in the widths of a record's fields; those that are not there count as 0. By places: one map over the widths
 // proves too, but takes half as long again for a record, and a bar of speed binds the run.
+#[inline(always)]
 fn decode(mark: Mark, fields: &[u8]) -> [u32; FIELDS]
     ensures { result ≡ decode (form_of mark).widths fields.now }
 {
@@ -78,11 +82,12 @@ fn decode(mark: Mark, fields: &[u8]) -> [u32; FIELDS]
 }
 
 // The call of a record whose fields are these bytes; those that are not there count as 0.
+#[inline(always)]
 pub fn call_of(mark: Mark, fields: &[u8]) -> Call
     ensures { result ≡ call_of mark (decode (form_of mark).widths fields.now) }
 {
     let values = decode(mark, fields);
-    Parts { mark, values }.into()
+    Call::from(Parts { mark, values })
 }
 
 // The bytes of a call's readings: only a test has some. By `as`: std has no From from u32 to usize.
@@ -105,7 +110,7 @@ pub fn readings_size(call: Call) -> usize
 pub fn fields_of(call: Call) -> Fields
     ensures { result ≡ fields_of call }
 {
-    let Parts { mark, values } = call.into();
+    let Parts { mark, values } = Parts::from(call);
     Fields {
         form: form_of(mark),
         values,
@@ -113,6 +118,7 @@ pub fn fields_of(call: Call) -> Fields
 }
 
 // Each value stands from the least to the greatest of its column.
+#[inline(always)]
 fn within_all(columns: &[Column; FIELDS], values: &[u32; FIELDS]) -> bool
     ensures { result ≡ within_all columns.now values.now }
 {
@@ -123,12 +129,13 @@ fn within_all(columns: &[Column; FIELDS], values: &[u32; FIELDS]) -> bool
 }
 
 // Refuses a call with a field out of range.
-#[tactic(auto, unfolding(crate::specs::Ranges::fields_number))]
+#[inline(always)]
+#[tactic(auto, using(crate::proofs::Tested::tested), unfolding(crate::specs::Ranges::fields_number))]
 pub fn check_fields(call: Call) -> Result<(), Refusal>
     ensures { met result ≡ fields_number call }
 {
-    let Parts { mark, values } = call.into();
-    if within_all(&line_of(mark).columns, &values) {
+    let Parts { mark, values } = Parts::from(call);
+    if within_all(&call_columns(mark), &values) {
         Ok(())
     } else {
         Err(Refusal::OutOfRange)

@@ -58,6 +58,9 @@ pub amount_above : (a : Amount) → a.minus ≤ a.plus → amount_of a ≡ decim
 unfolding amount_of
 amount_above a h = rw (le-ltb a.plus a.minus h)
 
--- the digits before the last one of a number of 64 bits
+-- the digits before the last one of a number of 64 bits, and all of them
 pub digits_before_last : (x : ℕ) → x < 2 ^ 64 → length (decimal (x / 10)) ≤ 19
 digits_before_last x h = decimal-short 18 (x / 10) (omega arith)
+
+pub digits_short : (x : ℕ) → x < 2 ^ 64 → length (decimal x) ≤ 20
+digits_short x h = decimal-short 19 x (omega arith)

@@ -58,3 +58,15 @@ joined-short f (suc n) h =
 pub joined_none : (f : ℕ → List ℕ) → joined f 0 ≡ []
 unfolding joined_from
 joined_none f = refl
+
+-- behind a text: no other, and one more
+pub joined_start : (l : List ℕ) (f : ℕ → List ℕ) → l ≡ l ++ joined f 0
+joined_start l f = sym (ap (λ t. l ++ t) (joined_none f) ∙ append-nil l)
+
+pub joined_next : (l : List ℕ) (f : ℕ → List ℕ) (n : ℕ) {so_far new t : List ℕ} → new ≡ so_far ++ t → so_far ≡ l ++ joined f n → t ≡ f n → new ≡ l ++ joined f (n + 1)
+joined_next l f n {so_far} {new} {t} e s k =
+    e
+    ∙ ap (λ x. x ++ t) s
+    ∙ ap (λ x. (l ++ joined f n) ++ x) k
+    ∙ append_assoc l (joined f n) (f n)
+    ∙ ap (λ x. l ++ x) (sym (joined_more f n))

@@ -1,5 +1,5 @@
 // Amounts in decimal digits, in columns, and in lines.
-ghost use Rattle.std.specs.Prelude.{◌≡◌, ◌≤◌, length};
+ghost use Rattle.std.specs.Prelude.{◌≡◌, ◌++◌, ◌+◌, ◌≤◌, length};
 ghost use Rattle.text.specs.Text.{plain, decimal, amount_of, line_of};
 ghost use Rattle.text.specs.Columns.{column};
 
@@ -54,6 +54,22 @@ impl Amount {
         text
     }
 
+    // The same behind what a line has so far.
+    #[tactic(auto, using(crate::proofs::Digits::digits_short), unfolding(crate::specs::Text::amount_of))]
+    fn push_to(self, line: &mut Text<LONGEST_LINE>)
+        requires { length line.old + LONGEST_AMOUNT ≤ LONGEST_LINE }
+        ensures text { line.new ≡ line.old ++ amount_of self }
+        ensures room { length line.new ≤ length line.old + LONGEST_AMOUNT }
+    {
+        let below = self.plus < self.minus;
+        if below {
+            line.push(b'-');
+            push_decimal(self.plus.abs_diff(self.minus), line);
+        } else {
+            push_decimal(self.plus.abs_diff(self.minus), line);
+        }
+    }
+
     // Right-aligned in as many columns as the text has bytes.
     pub fn column<const WIDTH: usize>(self) -> Text<WIDTH>
         ensures { result ≡ column WIDTH (amount_of self) }
@@ -77,6 +93,20 @@ pub fn decimal(x: u64) -> Text<LONGEST_DECIMAL>
     digits
 }
 
+// The same behind what a line has so far: a listing has some two thousand numbers, and a bar of speed binds it.
+#[tactic(auto, using(crate::proofs::Digits::decimal_digit, crate::proofs::Digits::decimal_more, crate::proofs::Digits::length_digit, crate::proofs::Digits::length_more))]
+fn push_decimal(x: u64, line: &mut Text<LONGEST_LINE>)
+    requires { length line.old + length (decimal x) ≤ LONGEST_LINE }
+    ensures { line.new ≡ line.old ++ decimal x }
+{
+    if x < 10 {
+        line.push(b'0' + x as u8);
+    } else {
+        push_decimal(x / 10, line);
+        line.push(b'0' + (x % 10) as u8);
+    }
+}
+
 // A line: its letter, the amounts, each behind a blank, and a line feed.
 #[tactic(auto, using(std::proofs::lemmas::List::take_more), unfolding(crate::specs::Text::line_of))]
 pub fn line(letter: u8, amounts: &[Amount]) -> Text<LONGEST_LINE>
@@ -87,7 +117,7 @@ pub fn line(letter: u8, amounts: &[Amount]) -> Text<LONGEST_LINE>
     line.push(letter);
     for amount in amounts {
         line.push(b' ');
-        line.push_text(&amount.text());
+        amount.push_to(&mut line);
     }
     line.push(b'\n');
     line

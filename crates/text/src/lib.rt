@@ -94,19 +94,18 @@ impl<const N: usize> Text<N> {
         self.push_bytes(other.as_bytes());
     }
 
-    // The texts of 0, 1, .., one behind the other, where there is room for the longest of each.
+    // The texts of 0, 1, .., one behind the other and behind the text, where there is room for the longest of each.
     // By index: what is joined lies in arrays beside each other, and the clause speaks of the text at each index.
     #[tactic(auto, using(crate::proofs::Joining::joined_none, crate::proofs::Joining::joined_more))]
-    pub fn join<F: Fn(usize) -> Text<LONGEST_LINE>>(count: usize, text: F) -> Self
+    pub fn push_join<F: Fn(usize) -> Text<LONGEST_LINE>>(&mut self, count: usize, text: F)
         requires callable { (i : ℕ) → i < count → F.pre text i }
-        requires room { count * LONGEST_LINE ≤ N }
-        ensures { (f : ℕ → List ℕ) → ((i : ℕ) (t : List ℕ) → i < count → F.post text i t → t ≡ f i) → result ≡ joined f count }
+        requires room { length self.old + count * LONGEST_LINE ≤ N }
+        ensures texts { (f : ℕ → List ℕ) → ((i : ℕ) (t : List ℕ) → i < count → F.post text i t → t ≡ f i) → self.new ≡ self.old ++ joined f count }
+        ensures room { length self.new ≤ length self.old + count * LONGEST_LINE }
     {
-        let mut texts = Text::new();
         for i in 0..count {
-            texts.push_text(&text(i));
+            self.push_text(&text(i));
         }
-        texts
     }
 }
 

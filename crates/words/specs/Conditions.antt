@@ -24,6 +24,8 @@ conditions =
     ∷ codes "output buffer shorter than the record, or than a division's amounts"
     ∷ codes "close while a declared consumer has neither a reading nor a mean"
     ∷ codes "a window or an entry whose end is not after its start, a window too long, or an entry out of order"
+    ∷ codes "a mark for consumers above 64"
+    ∷ codes "charges above 6,000,000,000,000 cents"
     ∷ []
 
 -- when a number is met; nothing where the table has no such number

@@ -23,6 +23,8 @@ meanings =
     ∷ codes "buffer too short"
     ∷ codes "consumer without a reading or a mean"
     ∷ codes "outage log out of order"
+    ∷ codes "mark for consumers above 64"
+    ∷ codes "charges above 6,000,000,000,000 cents"
     ∷ []
 
 -- what a number means; nothing where there is no such number

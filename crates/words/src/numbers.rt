@@ -102,6 +102,14 @@ fn words_of(number: u32) -> Words
             meaning: "outage log out of order",
             condition: "a window or an entry whose end is not after its start, a window too long, or an entry out of order",
         },
+        18 => Words {
+            meaning: "mark for consumers above 64",
+            condition: "a mark for consumers above 64",
+        },
+        19 => Words {
+            meaning: "charges above 6,000,000,000,000 cents",
+            condition: "charges above 6,000,000,000,000 cents",
+        },
         _ => Words {
             meaning: "",
             condition: "",

@@ -17,6 +17,7 @@ pub enum Asked {
     Replies,
     Run,
     Page,
+    Narrow,
 }
 
 // What the first argument asks for, or that it is a file; what begins with a minus sign and is no word is unknown.
@@ -34,6 +35,7 @@ impl From<&[u8]> for Word {
             b"replies" => Word::Print(Asked::Replies),
             b"run" => Word::Print(Asked::Run),
             b"page" => Word::Print(Asked::Page),
+            b"narrow" => Word::Print(Asked::Narrow),
             b"help" | b"--help" | b"-h" => Word::Help,
             [b'-', ..] => Word::Unknown,
             _ => Word::File,

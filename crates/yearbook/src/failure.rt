@@ -3,7 +3,7 @@ use std::fmt;
 use std::io::{self, Write};
 
 // How the program is called.
-pub const USAGE: &str = "usage: yearbook [replies | run | page] [FILE] | yearbook help\n";
+pub const USAGE: &str = "usage: yearbook [replies | run | page | narrow] [FILE] | yearbook help\n";
 
 // Room for the words of an error and its number.
 const MOST_WORDS: usize = 128;

@@ -1,4 +1,4 @@
-// `yearbook [replies | run | page] [FILE] | yearbook help`: words, reading and writing. What is printed of a journal is made in `desk`.
+// `yearbook [replies | run | page | narrow] [FILE] | yearbook help`: words, reading and writing. What is printed of a journal is made in `desk`.
 #![tactic(auto)]
 
 mod arguments; // arguments.rt: what the program is asked for
@@ -25,6 +25,7 @@ Reads a journal of the firm capacity book, FILE or standard input, of at most 65
   replies         each record's place, call, number and meaning, and where the reading stopped
   run             the counts, where and why the reading stopped, and the first refused record with its number
   page            the printed close: a line of 36 columns for each declared consumer, 50 to a page
+  narrow          the same journal, for programs of 64 consumers, where no record has a mark for those above; no book is run
   help            these words
 A journal holds binary records; scripts/journal of the sources makes them from lines of text.
 Where the program ends by itself, standard error is empty exactly when all was read and accepted, and all that was asked for was written.

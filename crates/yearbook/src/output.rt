@@ -1,7 +1,10 @@
 // What goes to standard output, and what to standard error.
 use crate::arguments::Asked;
 use crate::failure::{Failure, ReaderLeft};
-use desk::{Told, all_replies, next_reply, told_listing, told_page, told_run};
+use desk::{
+    Told, all_replies, narrow_findings, narrow_output, next_reply, told_listing, told_page,
+    told_run,
+};
 use listing::MOST_INPUT;
 use std::io::{self, ErrorKind};
 
@@ -33,24 +36,32 @@ fn print_replies(rt: &HostRuntime, input: &[u8]) -> Result<(), Failure<'static>>
     Ok(())
 }
 
-// What is printed of an input, and what is found wrong with it; where the replies are asked for, the listing.
-// The replies are printed line by line; their findings are the listing's.
-fn told(asked: Asked, input: &[u8]) -> Told {
-    match asked {
-        Asked::Listing | Asked::Replies => told_listing(input),
-        Asked::Run => told_run(input),
-        Asked::Page => told_page(input),
-    }
+// What is found wrong with an input, on standard error.
+fn find(rt: &HostRuntime, findings: &[u8]) -> Result<(), Failure<'static>> {
+    unless_left(Print::write_all(&rt.stderr(), findings))?;
+    Ok(())
+}
+
+// What was told of an input: what is found wrong, and then what is printed.
+fn print_told(rt: &HostRuntime, told: &Told) -> Result<(), Failure<'static>> {
+    find(rt, told.findings.as_bytes())?;
+    print(rt, told.output.as_bytes())
 }
 
 // What is found wrong with an input, and then what is asked for: who reads this may leave, as `head` does, and end the program.
-// One comparison with `MOST_INPUT`: what is printed then differs.
+// The replies are printed line by line, behind the findings of the listing; where the input is too long, the listing is what is printed too.
 pub fn tell(rt: &HostRuntime, asked: Asked, input: &[u8]) -> Result<(), Failure<'static>> {
-    let told = told(asked, input);
-    unless_left(Print::write_all(&rt.stderr(), told.findings.as_bytes()))?;
-    if asked == Asked::Replies && input.len() <= MOST_INPUT {
-        print_replies(rt, input)
-    } else {
-        print(rt, told.output.as_bytes())
+    match asked {
+        Asked::Replies if input.len() <= MOST_INPUT => {
+            find(rt, told_listing(input).findings.as_bytes())?;
+            print_replies(rt, input)
+        }
+        Asked::Listing | Asked::Replies => print_told(rt, &told_listing(input)),
+        Asked::Run => print_told(rt, &told_run(input)),
+        Asked::Page => print_told(rt, &told_page(input)),
+        Asked::Narrow => {
+            find(rt, narrow_findings(input).as_bytes())?;
+            print(rt, narrow_output(input))
+        }
     }
 }

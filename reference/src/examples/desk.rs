@@ -148,7 +148,9 @@ fn an_input_of_more_than_65_536_bytes_is_not_read() {
     let longer = [&full[..], b"C"].concat();
     assert_eq!(said(&longer), expected);
     assert_eq!((desk(&longer).page, desk(&longer).page_findings), expected);
-    assert_eq!(desk(&longer).run, expected.0);
+    assert_eq!((desk(&longer).run.as_bytes(), desk(&longer).narrow), (b"X\n".as_slice(), b"X\n".to_vec()));
+    assert_eq!(desk(&longer).narrow_findings, expected.1);
+    assert_eq!((desk(&full).narrow, desk(&full).narrow_findings), (full, String::new()));
 }
 
 #[test]
@@ -156,9 +158,11 @@ fn the_parts_follow_each_other_behind_their_lengths() {
     let stopped = "yearbook: reading stopped at byte 0: 1 record cut short\n";
     let expected = "8\nR 0 0 0\n27\n0 stop: 1 record cut short\n".to_string();
     let [cut, none] = [&b"Y"[..], b""].map(|journal| summary::lines(&journal::run(journal)));
-    assert_eq!(parts(b"Y"), format!("{expected}56\n{stopped}0\n119\n{stopped}{NO_PAGE}103\n{cut}").as_bytes());
-    let expected = format!("8\nR 0 0 0\n17\n0 end of journal\n0\n0\n63\n{NO_PAGE}");
-    assert_eq!(parts(b""), format!("{expected}99\n{none}").as_bytes());
+    let expected = format!("{expected}56\n{stopped}0\n119\n{stopped}{NO_PAGE}103\n{cut}0\n");
+    let narrowed = "yearbook: no journal for 64 consumers, at byte 0: 1 record cut short\n";
+    assert_eq!(parts(b"Y"), format!("{expected}{}\n{narrowed}", narrowed.len()).as_bytes());
+    let expected = format!("8\nR 0 0 0\n17\n0 end of journal\n0\n0\n63\n{NO_PAGE}99\n{none}0\n0\n");
+    assert_eq!(parts(b""), expected.as_bytes());
 }
 
 #[test]

@@ -117,7 +117,7 @@ fn only_declared_consumers_need_a_reading_or_a_mean() {
 }
 
 #[test]
-fn every_place_of_64_is_looked_at() {
+fn every_place_of_a_byte_is_looked_at() {
     let mut text = "year 720 120 4\n".to_string();
     (1..=64).for_each(|consumer| text += &format!("declare {consumer} 1 1\n"));
     text += "fix 64\n";

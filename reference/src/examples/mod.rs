@@ -1,6 +1,8 @@
 //! The examples of the papers, run through the whole book.
 
 mod case_j;
+mod charges;
+mod consumers;
 mod desk;
 mod means;
 mod page;
@@ -11,7 +13,7 @@ mod thirteen;
 mod watts;
 mod years;
 
-use crate::cases;
+use crate::answers;
 use crate::journal::{self, Run};
 use crate::listing;
 use crate::text;
@@ -50,5 +52,5 @@ fn after_j(count: usize, more: &str) -> String {
 
 /// The lines of the subcommand `replies` for a journal.
 fn reply_lines(journal: &[u8]) -> String {
-    String::from_utf8(cases::replies(journal)).expect("replies are text")
+    String::from_utf8(answers::replies(journal)).expect("replies are text")
 }

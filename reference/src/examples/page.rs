@@ -58,26 +58,38 @@ fn a_book_not_closed_meets_4() {
     }
 }
 
-/// The lines of a year in which the last so many of the consumers 1 to 64 declare, the highest number first.
+/// The lines of a year in which the last so many of the consumers 1 to 300 declare, the highest number first.
 fn lines_of(consumers: usize) -> Vec<String> {
     let mut text = "year 720 120 4\n".to_string();
-    (65 - consumers..=64).rev().for_each(|consumer| text += &format!("declare {consumer} 5 5\n"));
+    (301 - consumers..=300).rev().for_each(|consumer| text += &format!("declare {consumer} 5 5\n"));
     text += &format!("fix {}\n", 7 * consumers);
-    (65 - consumers..=64).for_each(|consumer| text += &format!("meter {consumer} 0\n"));
+    (301 - consumers..=300).for_each(|consumer| text += &format!("meter {consumer} 0\n"));
     lines(&format!("{text}close 1\n"))
 }
 
 #[test]
 fn a_page_carries_50_consumers_and_the_last_1_to_50() {
-    for (consumers, on_the_pages) in
-        [(1, &[1][..]), (49, &[49]), (50, &[50]), (51, &[50, 1]), (63, &[50, 13]), (64, &[50, 14])]
-    {
+    for (consumers, on_the_pages) in [
+        (1, &[1][..]),
+        (49, &[49]),
+        (50, &[50]),
+        (51, &[50, 1]),
+        (64, &[50, 14]),
+        (100, &[50, 50]),
+        (101, &[50, 50, 1]),
+        (150, &[50, 50, 50]),
+        (200, &[50, 50, 50, 50]),
+        (201, &[50, 50, 50, 50, 1]),
+        (250, &[50, 50, 50, 50, 50]),
+        (251, &[50, 50, 50, 50, 50, 1]),
+        (300, &[50, 50, 50, 50, 50, 50]),
+    ] {
         let mut expected = Vec::new();
-        let mut consumer = 65 - consumers;
+        let mut consumer = 301 - consumers;
         for (number, &carried) in (1..).zip(on_the_pages) {
             expected.push(heading(number));
             for _ in 0..carried {
-                expected.push(format!(" {consumer:2}       7        7               0"));
+                expected.push(format!("{consumer:3}       7        7               0"));
                 consumer += 1;
             }
         }
@@ -87,10 +99,10 @@ fn a_page_carries_50_consumers_and_the_last_1_to_50() {
 
 #[test]
 fn every_number_of_consumers_has_its_headings_in_place() {
-    for consumers in 1..=64 {
+    for consumers in 1..=300 {
         let lines = lines_of(consumers);
         let headings: Vec<usize> = (0..lines.len()).filter(|&at| lines[at].starts_with("PAGE")).collect();
-        assert_eq!(headings, if consumers <= 50 { vec![0] } else { vec![0, 51] });
+        assert_eq!(headings, (0..consumers.div_ceil(50)).map(|page| 51 * page).collect::<Vec<usize>>());
         assert_eq!(lines.len(), consumers + headings.len());
     }
 }
@@ -123,7 +135,19 @@ fn the_widest_figures_fit_their_columns() {
     assert_eq!(largest_credit[50], " 50       0 -3000000    -90000000000");
     assert_eq!(largest_credit[65], " 64 3000000  3000000   5670000000000");
 
+    // The greatest sum of charges, all to one credit: 200 · 2,000,000 · 1,250 · 12 cents.
+    let mut declarations = [(0, 1); 300];
+    let mut readings = [2_000_000; 300];
+    (declarations[299], readings[299]) = ((3_000_000, 1), 0);
+    readings[..99].fill(0);
+    let largest_credit = lines(&year(&declarations, 3_000_000, &readings, 1_250));
+    assert_eq!(largest_credit.len(), 306);
+    assert_eq!(largest_credit[304], "299       0 -2000000    -30000000000");
+    assert_eq!(largest_credit[305], "300 3000000  3000000   6000000000000");
+
     // every consumer is charged, and nobody has a credit
+    let mut declarations = [(0, 1); 64];
+    let mut readings = [3_000_000; 64];
     (declarations[63], readings[63]) = ((1, 2), 3_000_000);
     let all_charged = lines(&year(&declarations, 1, &readings, 2_500));
     assert_eq!(all_charged[1], "  1       0 -3000000    -90000000000");

@@ -2,6 +2,7 @@
 
 use super::{after_j, last, replies, reply_lines, run};
 use crate::call::{Call, Test, Year};
+use crate::narrow::{self, Met};
 use crate::number::Number;
 use crate::plant::PowerTest;
 use crate::record;
@@ -23,9 +24,7 @@ fn number_2_unknown_mark() {
     assert_eq!(reply_lines(&[0, 0]), "stop 2 0\nR 0 0 0\n");
     let journal = [&text::records("year 720 120 4\n").unwrap()[..], &[0x52, 0x59, 1, 2, 3]].concat();
     assert_eq!(reply_lines(&journal), "0 0\nstop 2 7\nR 1 1 0\n");
-    for later in
-        [[0x64, 0x6D], [0x63, 0x6D], [0x72, 0x6C], [0x6D, 0x74], [0x61, 0x74], [0x59, 0x47], [0x4C, 0x56], [0x54, 0x50]]
-    {
+    for later in [[0x59, 0x47], [0x4C, 0x56], [0x54, 0x50]] {
         assert_eq!(record::read(&later, 0), Err(Number::UnknownMark));
     }
 }
@@ -135,6 +134,13 @@ fn number_16_a_declared_consumer_without_a_reading_or_a_mean() {
     for (more, number) in [("", 16), ("meter 3 1000\n", 0), ("mean 3 1000\n", 0), ("meter 2 1200\n", 16)] {
         assert_eq!(last(&after_j(14, &format!("{more}close 890"))), number, "{more}");
     }
+}
+
+#[test]
+fn number_18_a_mark_for_consumers_above_64() {
+    let journal = text::records("year 720 120 4\ndeclare 65 1 1\n").unwrap();
+    assert_eq!(narrow::check(&journal), Err(Met { place: 7, number: Number::Above64 }));
+    assert_eq!(narrow::check(&journal[..7]), Ok(()));
 }
 
 #[test]

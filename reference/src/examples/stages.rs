@@ -63,15 +63,21 @@ fn ranges_of_test_and_availability() {
 
 #[test]
 fn ranges_of_declare_commit_release_meter_and_mean() {
-    all_in(&["declare 64 3000000 3000000", "declare 1 0 0", "meter 64 3000000", "meter 1 0"]);
-    all_out(&["declare 0 1 1", "declare 65 1 1", "declare 1 3000001 1", "declare 1 1 3000001"]);
-    all_out(&["meter 0 1", "meter 65 1", "meter 1 3000001"]);
-    all_in(&["mean 64 3000000", "mean 1 0"]);
-    all_out(&["mean 0 1", "mean 65 1", "mean 1 3000001", "mean 255 4294967295"]);
-    for name in ["commit", "release"] {
-        all_in(&[&format!("{name} 16 64 3000000"), &format!("{name} 1 1 1")]);
-        all_out(&[&format!("{name} 0 1 1"), &format!("{name} 17 1 1"), &format!("{name} 1 0 1")]);
-        all_out(&[&format!("{name} 1 65 1"), &format!("{name} 1 1 0"), &format!("{name} 1 1 3000001")]);
+    for consumer in [1, 64, 65, 255, 256, 300] {
+        all_in(&[&format!("declare {consumer} 3000000 3000000"), &format!("declare {consumer} 0 0")]);
+        all_out(&[&format!("declare {consumer} 3000001 1"), &format!("declare {consumer} 1 3000001")]);
+        all_in(&[&format!("meter {consumer} 3000000"), &format!("meter {consumer} 0")]);
+        all_in(&[&format!("mean {consumer} 3000000"), &format!("mean {consumer} 0")]);
+        all_out(&[&format!("meter {consumer} 3000001"), &format!("mean {consumer} 3000001")]);
+        for name in ["commit", "release"] {
+            all_in(&[&format!("{name} 16 {consumer} 3000000"), &format!("{name} 1 {consumer} 1")]);
+            all_out(&[&format!("{name} 0 {consumer} 1"), &format!("{name} 17 {consumer} 1")]);
+            all_out(&[&format!("{name} 1 {consumer} 0"), &format!("{name} 1 {consumer} 3000001")]);
+        }
+    }
+    for consumer in [0, 301, 512, 65_535] {
+        all_out(&[&format!("declare {consumer} 1 1"), &format!("meter {consumer} 1"), &format!("mean {consumer} 1")]);
+        all_out(&[&format!("commit 1 {consumer} 1"), &format!("release 1 {consumer} 1")]);
     }
 }
 

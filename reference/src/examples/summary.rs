@@ -86,6 +86,13 @@ fn the_last_record_may_be_the_first_refused() {
     assert_eq!(figures(&run(&after_j(10, ""))), [10, 9, 1, 0, 131, 1, 123, 11]);
 }
 
+/// A year whose close at 2,500 meets 19: 67 consumers are charged for 3,000,000 kW each.
+fn charged() -> String {
+    let declarations: String = (2..=68).map(|consumer| format!("declare {consumer} 0 1\n")).collect();
+    let readings: String = (1..=68).map(|consumer| format!("meter {consumer} 3000000\n")).collect();
+    format!("year 720 120 4\ndeclare 1 1 1\n{declarations}fix 1\n{readings}")
+}
+
 #[test]
 fn each_number_has_the_words_of_its_row() {
     let unit = "year 720 120 4\nunit 1 1 1 17 0 0 0 0 0\n";
@@ -105,6 +112,7 @@ fn each_number_has_the_words_of_its_row() {
         (firm, "release 1 1 1", "12 q above the pair's balance"),
         (unit, "fix 1", "13 weights sum to 0"),
         (metered, "close 1", "14 a DFA above 3,000,000"),
+        (&charged(), "close 2500", "19 charges above 6,000,000,000,000 cents"),
         (firm, "close 1", "16 close while a declared consumer has neither a reading nor a mean"),
     ] {
         let place = text::records(before).unwrap().len();

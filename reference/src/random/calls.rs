@@ -3,7 +3,7 @@
 use super::draw::Draw;
 use crate::call::{Declare, Unit, Year, FIRST_YEAR, FORCED, PIC_GIVEN, SECOND_YEAR, SUPPLY_REPORT};
 use crate::plant::{Minutes, MOST_MINUTES};
-use crate::range::{MOST_ENERGY, MOST_KW, MOST_READING};
+use crate::range::{CONSUMERS, CONSUMERS_IN_A_BYTE, MOST_ENERGY, MOST_KW, MOST_READING};
 
 /// What the calls of one journal have in common.
 pub struct Style {
@@ -12,7 +12,9 @@ pub struct Style {
     /// The producers that have units.
     pub producers: u8,
     /// The consumers that declare.
-    pub consumers: u8,
+    pub consumers: u16,
+    /// The greatest number of a consumer, 64 or 300.
+    pub greatest: u16,
     /// The units that are enrolled.
     pub units: u8,
     /// Whether all declarations are alike.
@@ -26,11 +28,17 @@ pub struct Style {
 /// A style for one journal.
 pub fn style(draw: &mut Draw) -> Style {
     let scale = draw.pick(&[3, 40, 150, 700, 700, 2_000, 10_000, 10_000, 40_000, 90_000, 400_000, 3_000_000]);
-    let consumers = draw.pick(&[1, 2, 3, 3, 5, 8, 13, 30, 63, 64]);
+    let greatest = draw.pick(&[CONSUMERS_IN_A_BYTE, CONSUMERS as u16]);
+    let consumers = if greatest == CONSUMERS_IN_A_BYTE {
+        draw.pick(&[1, 2, 3, 3, 5, 8, 13, 30, 63, 64])
+    } else {
+        draw.pick(&[1, 2, 3, 5, 8, 8, 13, 13, 30, 30, 63, 64, 65, 66, 100, 255, 256, 257, 299, 300])
+    };
     Style {
         scale,
         producers: draw.pick(&[1, 1, 2, 3, 5, 16]),
         consumers,
+        greatest,
         units: draw.pick(&[0, 1, 1, 2, 2, 3, 3, 5, 8, 12, 48]),
         alike: draw.chance(20),
         tied: draw.chance(12),
@@ -153,7 +161,7 @@ pub fn minutes(draw: &mut Draw) -> Minutes {
 }
 
 /// 01 "Journal records", declare: the projection lies about the 2 % of 2.6.4.
-pub fn declare(draw: &mut Draw, style: &Style, consumer: u8) -> Declare {
+pub fn declare(draw: &mut Draw, style: &Style, consumer: u16) -> Declare {
     let d = match draw.between(0, 9) {
         _ if style.alike => style.scale.min(MOST_KW),
         0 => draw.figure(MOST_KW),

@@ -7,15 +7,15 @@ use crate::call::{Call, Mean, Meter};
 use crate::range::MOST_KW;
 
 /// 02 "A4": the call that enters a consumer's real demand.
-type Entry = fn(u8, u32) -> Call<'static>;
+type Entry = fn(u16, u32) -> Call<'static>;
 
 /// 01 "Journal records", meter.
-fn reading(consumer: u8, dreal: u32) -> Call<'static> {
+fn reading(consumer: u16, dreal: u32) -> Call<'static> {
     Call::Meter(Meter { consumer, dreal })
 }
 
 /// 02 "A4": a mean.
-fn mean(consumer: u8, mean: u32) -> Call<'static> {
+fn mean(consumer: u16, mean: u32) -> Call<'static> {
     Call::Mean(Mean { consumer, mean })
 }
 
@@ -33,7 +33,7 @@ fn entries(draw: &mut Draw) -> &'static [Entry] {
 }
 
 /// 02 "A4": the real demand of one consumer, about `percent` of what was declared.
-pub fn enter(draft: &mut Draft, consumer: u8, percent: u64) {
+pub fn enter(draft: &mut Draft, consumer: u16, percent: u64) {
     for entry in entries(&mut draft.draw) {
         let kw = real_demand(draft, consumer, percent);
         draft.put(&entry(consumer, kw));
@@ -41,9 +41,9 @@ pub fn enter(draft: &mut Draft, consumer: u8, percent: u64) {
 }
 
 /// 01 "Close" (2.6.5.2): a figure about `percent` of what was declared, at times almost nothing, seldom one that meets 14.
-fn real_demand(draft: &mut Draft, consumer: u8, percent: u64) -> u32 {
+fn real_demand(draft: &mut Draft, consumer: u16, percent: u64) -> u32 {
     let greatest = draft.greatest_dreal();
-    let declared = draft.book.consumers[usize::from(consumer) - 1].map_or(0, |consumer| consumer.d);
+    let declared = draft.held(consumer).map_or(0, |held| held.d);
     let middle = (u64::from(declared) * percent / 100).min(MOST_KW.into()) as u32;
     match draft.draw.between(0, 49) {
         0 if greatest < MOST_KW => greatest + 1,
@@ -57,8 +57,8 @@ fn real_demand(draft: &mut Draft, consumer: u8, percent: u64) -> u32 {
 }
 
 /// 02 "A4": enters a real demand that counts: a mean where one stands, since no reading replaces it.
-fn count(draft: &mut Draft, consumer: u8, kw: u32) {
-    let stands = draft.book.consumers[usize::from(consumer) - 1].is_some_and(|consumer| consumer.mean.is_some());
+pub fn count(draft: &mut Draft, consumer: u16, kw: u32) {
+    let stands = draft.held(consumer).is_some_and(|held| held.mean.is_some());
     let entry: Entry = if stands || draft.draw.chance(30) { mean } else { reading };
     draft.put(&entry(consumer, kw));
 }
@@ -67,7 +67,7 @@ fn count(draft: &mut Draft, consumer: u8, kw: u32) {
 pub fn close(draft: &mut Draft) {
     let percent = draft.draw.pick(&[50, 90, 98, 100, 100, 102, 110, 150, 300]);
     let silent = silent(draft);
-    for consumer in draft.consumers(true) {
+    for consumer in draft.consumers() {
         perhaps_fault(draft);
         if !silent.contains(&consumer) {
             enter(draft, consumer, percent);
@@ -87,7 +87,7 @@ pub fn close(draft: &mut Draft) {
 }
 
 /// 02 "A4": in some journals the first, the last or any of the consumers that have neither a reading nor a mean; the close meets 16.
-fn silent(draft: &mut Draft) -> Vec<u8> {
+fn silent(draft: &mut Draft) -> Vec<u16> {
     if !draft.draw.chance(11) {
         return Vec::new();
     }
@@ -97,7 +97,7 @@ fn silent(draft: &mut Draft) -> Vec<u8> {
         1 => silent.reverse(),
         _ => shuffle(&mut draft.draw, &mut silent),
     }
-    silent.truncate(draft.draw.pick(&[1, 1, 1, 2, 3, 64]));
+    silent.truncate(draft.draw.pick(&[1, 1, 1, 2, 3, 300]));
     silent
 }
 
@@ -124,7 +124,7 @@ fn raise(draft: &mut Draft) {
 fn lower(draft: &mut Draft) {
     let greatest = draft.greatest_dreal();
     for consumer in draft.with_dreal() {
-        let held = draft.book.consumers[usize::from(consumer) - 1].and_then(|consumer| consumer.dreal());
+        let held = draft.held(consumer).and_then(|held| held.dreal());
         if held > Some(greatest) {
             let kw = if draft.draw.chance(50) { greatest } else { draft.draw.figure(greatest) };
             if draft.draw.chance(15) {
@@ -147,21 +147,22 @@ mod tests {
     use crate::range::MOST_KW;
     use crate::record;
 
-    /// Runs a journal and shows the book before each call, the call and the result.
-    fn replay(journal: &[u8], mut show: impl FnMut(&Book, &Call, Result<(), Number>)) {
+    /// Runs a journal and shows what is seen of the book before each call, the call and the result.
+    fn replay<S>(journal: &[u8], see: impl Fn(&Book, &Call) -> S, mut show: impl FnMut(S, &Call, Result<(), Number>)) {
         let mut book = Book::default();
         let mut place = 0;
         while let Ok((call, next)) = record::read(journal, place) {
-            let before = book.clone();
+            let seen = see(&book, &call);
             let result = book.apply(&call);
-            show(&before, &call, result);
+            show(seen, &call, result);
             place = next;
         }
     }
 
-    /// A consumer of the book before a call that it accepted.
-    fn held(book: &Book, consumer: u8) -> Consumer {
-        book.consumers[usize::from(consumer) - 1].expect("the consumer is declared")
+    /// The consumer of a reading or of a mean as the book has it, if it has.
+    fn held(book: &Book, call: &Call) -> Option<Consumer> {
+        let (Call::Meter(Meter { consumer, .. }) | Call::Mean(Mean { consumer, .. })) = *call else { return None };
+        *book.consumers.get(usize::from(consumer).checked_sub(1)?)?
     }
 
     /// 01 "Close" (2.6.5.2): the places of the declared consumers of whose Dreal this holds.
@@ -175,23 +176,24 @@ mod tests {
         let mut seen = BTreeMap::new();
         let mut see = |what: &'static str, holds: bool| *seen.entry(what).or_insert(0) += u32::from(holds);
         for number in 0..600 {
-            replay(&journal(1, number), |book, call, result| match (call, result) {
-                (Call::Mean(Mean { consumer, mean }), Ok(())) => {
-                    let before = held(book, *consumer);
-                    see("a mean first", before.dreal().is_none());
-                    see("a mean behind a reading", before.reading.is_some() && before.mean.is_none());
-                    see("a mean replaced", before.mean.is_some());
-                    see("a mean of 0", *mean == 0);
-                    see("a mean of almost nothing", (1..=3).contains(mean));
+            let alone = |consumer: &Consumer| consumer.mean.is_some() && consumer.reading.is_none();
+            let before = |book: &Book, call: &Call| {
+                let close_with_one_alone = matches!(call, Call::Close(_)) && book.consumers.iter().flatten().any(alone);
+                (held(book, call), close_with_one_alone)
+            };
+            replay(&journal(1, number), before, |(before, close_with_one_alone), call, result| {
+                match (call, before, result) {
+                    (Call::Mean(Mean { mean, .. }), Some(before), Ok(())) => {
+                        see("a mean first", before.dreal().is_none());
+                        see("a mean behind a reading", before.reading.is_some() && before.mean.is_none());
+                        see("a mean replaced", before.mean.is_some());
+                        see("a mean of 0", *mean == 0);
+                        see("a mean of almost nothing", (1..=3).contains(mean));
+                    }
+                    (Call::Meter(_), Some(before), Ok(())) => see("a reading behind a mean", before.mean.is_some()),
+                    (Call::Close(_), _, Ok(())) => see("a close with a mean alone", close_with_one_alone),
+                    _ => {}
                 }
-                (Call::Meter(Meter { consumer, .. }), Ok(())) => {
-                    see("a reading behind a mean", held(book, *consumer).mean.is_some());
-                }
-                (Call::Close(_), Ok(())) => {
-                    let alone = |consumer: &Consumer| consumer.mean.is_some() && consumer.reading.is_none();
-                    see("a close with a mean alone", book.consumers.iter().flatten().any(alone));
-                }
-                _ => {}
             });
         }
         assert!(seen.len() == 7 && seen.values().all(|&times| times >= 50), "{seen:?}");
@@ -201,14 +203,18 @@ mod tests {
     fn closes_meet_16_beside_a_dfa_above_3_000_000_in_a_lower_and_in_a_higher_place() {
         let (mut alone, mut above_behind, mut above_before) = (0, 0, 0);
         for number in 0..2_000 {
-            replay(&journal(1, number), |book, call, result| {
-                if !matches!((call, result), (Call::Close(_), Err(Number::NoRealDemand))) {
+            let before = |book: &Book, call: &Call| {
+                if !matches!(call, Call::Close(_)) || book.declared == 0 {
+                    return (Vec::new(), Vec::new());
+                }
+                let (dmp, declared) = (u64::from(book.dmp), book.declared);
+                let is_above = |dreal| u64::from(dreal) * dmp / declared > u64::from(MOST_KW);
+                (places(book, |dreal| dreal.is_none()), places(book, |dreal| dreal.is_some_and(is_above)))
+            };
+            replay(&journal(1, number), before, |(silent, above), _, result| {
+                if result != Err(Number::NoRealDemand) {
                     return;
                 }
-                let (dmp, declared) = (u128::from(book.dmp), u128::from(book.declared));
-                let is_above = |dreal| u128::from(dreal) * dmp / declared > u128::from(MOST_KW);
-                let silent = places(book, |dreal| dreal.is_none());
-                let above = places(book, |dreal| dreal.is_some_and(is_above));
                 alone += u32::from(above.is_empty());
                 above_behind += u32::from(silent.first() < above.last());
                 above_before += u32::from(above.first().is_some_and(|first| Some(first) < silent.last()));

@@ -2,12 +2,15 @@
 
 use super::calls::{self, Style, Trial};
 use super::draw::Draw;
-use crate::book::Book;
+use crate::book::{Book, Consumer};
 use crate::call::{Availability, Call, Contract, Mean, Meter, Test};
 use crate::number::reply;
 use crate::plant::PowerTest;
-use crate::range::{CONSUMERS, MOST_KW, PRODUCERS};
+use crate::range::{MOST_KW, PRODUCERS};
 use crate::record;
+
+/// 02 "A7": the ends of what the fields of one byte and of two take, and the numbers about the greatest byte.
+pub const BOUNDARIES: [u16; 6] = [1, 64, 65, 255, 256, 300];
 
 /// The draws, the records so far and the book that they lead to.
 pub struct Draft {
@@ -39,26 +42,53 @@ impl Draft {
 
     /// Unit numbers that are enrolled, or those that are not.
     pub fn units(&self, enrolled: bool) -> Vec<u8> {
-        numbers(self.book.plants.iter().map(|plant| plant.is_some() == enrolled))
+        (1..).zip(&self.book.plants).filter(|(_, plant)| plant.is_some() == enrolled).map(|(unit, _)| unit).collect()
     }
 
-    /// Consumer numbers that are declared, or those that are not.
-    pub fn consumers(&self, declared: bool) -> Vec<u8> {
-        numbers(self.book.consumers.iter().map(|consumer| consumer.is_some() == declared))
+    /// Declared consumers of which this holds.
+    fn declared(&self, holds: impl Fn(&Consumer) -> bool) -> Vec<u16> {
+        let numbers = (1..).zip(&self.book.consumers);
+        numbers.filter(|(_, held)| matches!(held, Some(held) if holds(held))).map(|(consumer, _)| consumer).collect()
+    }
+
+    /// Declared consumers.
+    pub fn consumers(&self) -> Vec<u16> {
+        self.declared(|_| true)
+    }
+
+    /// Consumers of the style that are not declared.
+    pub fn undeclared(&self) -> Vec<u16> {
+        let numbers = (1..=self.style.greatest).zip(&self.book.consumers);
+        numbers.filter(|(_, held)| held.is_none()).map(|(consumer, _)| consumer).collect()
     }
 
     /// 02 "A4": declared consumers that have a reading or a mean.
-    pub fn with_dreal(&self) -> Vec<u8> {
-        numbers(self.book.consumers.iter().map(|held| held.is_some_and(|held| held.dreal().is_some())))
+    pub fn with_dreal(&self) -> Vec<u16> {
+        self.declared(|consumer| consumer.dreal().is_some())
     }
 
     /// 02 "A4": declared consumers that have neither a reading nor a mean.
-    pub fn without_dreal(&self) -> Vec<u8> {
-        numbers(self.book.consumers.iter().map(|held| held.is_some_and(|held| held.dreal().is_none())))
+    pub fn without_dreal(&self) -> Vec<u16> {
+        self.declared(|consumer| consumer.dreal().is_none())
+    }
+
+    /// What the book has of a consumer.
+    pub fn held(&self, consumer: u16) -> Option<&Consumer> {
+        self.book.consumers[usize::from(consumer) - 1].as_ref()
+    }
+
+    /// Any consumer of the style, 02 "A7": often one at the end of a form's range, or where a byte no longer holds the number.
+    pub fn any_consumer(&mut self) -> u16 {
+        let greatest = self.style.greatest;
+        if self.draw.chance(30) {
+            self.draw.pick(&BOUNDARIES).min(greatest)
+        } else {
+            self.draw.number(1, greatest)
+        }
     }
 
     /// Pairs of a producer and a consumer with a balance above 0.
-    pub fn pairs(&self) -> Vec<(u8, u8)> {
+    pub fn pairs(&self) -> Vec<(u8, u16)> {
         let mut pairs = Vec::new();
         for (producer, held) in (1..).zip(&self.book.producers) {
             for (consumer, &balance) in (1..).zip(&held.balances) {
@@ -84,10 +114,11 @@ impl Draft {
 
     /// A whole record of any call with fields in range, whatever the book holds.
     pub fn any_record(&mut self) -> Vec<u8> {
+        let near = self.style.consumers.min(self.style.greatest - 1) + 1;
+        let consumer = if self.draw.chance(20) { self.any_consumer() } else { self.draw.number(1, near) };
         let Draft { draw, style, book, .. } = self;
         let unit = draw.byte(1, style.units.clamp(1, 47) + 1);
         let component = draw.pick(&[0, 0, 0, 1, 2]);
-        let consumer = draw.byte(1, style.consumers.min(63) + 1);
         let producer = draw.byte(1, style.producers.min(15) + 1);
         let contract = Contract { producer, consumer, q: draw.near(style.scale, MOST_KW).max(1) };
         let call = match draw.between(0, 10) {
@@ -107,24 +138,12 @@ impl Draft {
     }
 }
 
-/// The numbers, from 1, of the places that hold.
-fn numbers(places: impl Iterator<Item = bool>) -> Vec<u8> {
-    (1..).zip(places).filter(|place| place.1).map(|place| place.0).collect()
-}
-
 /// 01 "Journal records", test: the record of a test of one component.
 pub fn test_record(unit: u8, component: u8, trial: &Trial) -> Vec<u8> {
     let readings: Vec<u8> = trial.readings.iter().flat_map(|reading| reading.to_le_bytes()).collect();
     let count = trial.readings.len() as u8;
     let run = PowerTest { ending: trial.ending, tc: trial.tc, count, readings: &readings };
     record::bytes(&Call::Test(Test { unit, component, run }))
-}
-
-/// 01 "Quantities": the numbers 1 to `most` in a drawn order.
-pub fn shuffled(draw: &mut Draw, most: u8) -> Vec<u8> {
-    let mut numbers: Vec<u8> = (1..=most).collect();
-    shuffle(draw, &mut numbers);
-    numbers
 }
 
 /// Puts items in a drawn order.
@@ -137,9 +156,4 @@ pub fn shuffle<T>(draw: &mut Draw, items: &mut [T]) {
 /// 01 "Quantities": any producer number.
 pub fn any_producer(draw: &mut Draw) -> u8 {
     draw.byte(1, PRODUCERS as u8)
-}
-
-/// 01 "Quantities": any consumer number.
-pub fn any_consumer(draw: &mut Draw) -> u8 {
-    draw.byte(1, CONSUMERS as u8)
 }

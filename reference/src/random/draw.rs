@@ -30,6 +30,11 @@ impl Draw {
         self.between(low.into(), high.into()) as u8
     }
 
+    /// A number of two bytes from `low` to `high`, both included.
+    pub fn number(&mut self, low: u16, high: u16) -> u16 {
+        self.between(low.into(), high.into()) as u16
+    }
+
     /// True in `percent` of 100 draws.
     pub fn chance(&mut self, percent: u64) -> bool {
         self.next() % 100 < percent

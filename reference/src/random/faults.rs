@@ -1,11 +1,11 @@
 //! Calls that are drafted to be refused.
 
 use super::calls::{self, Trial};
-use super::draft::{any_consumer, any_producer, test_record, Draft};
+use super::draft::{any_producer, test_record, Draft};
 use crate::book::{stage_of, Stage};
-use crate::call::{Availability, Call, Contract, Mean, Meter};
+use crate::call::{row, Availability, Call, Contract, Declare, Mean, Meter};
 use crate::plant::{Minutes, MOST_MINUTES};
-use crate::range::{self, MOST_KW, MOST_READING};
+use crate::range::{self, CONSUMERS_IN_A_BYTE, MOST_KW, MOST_READING};
 use crate::record;
 
 /// 01 "Numbered replies": adds a call that meets a number of the present stage, if there is one to meet.
@@ -31,8 +31,10 @@ pub fn fault(draft: &mut Draft) {
 
 /// 01 "Numbered replies", 3: one field, or one reading, outside its range.
 fn out_of_range(draft: &mut Draft) {
-    if draft.draw.chance(15) {
-        return out_of_range_test(draft);
+    match draft.draw.between(0, 99) {
+        0..=14 => return out_of_range_test(draft),
+        15..=39 => return foreign_consumer(draft),
+        _ => {}
     }
     for _ in 0..40 {
         let mut bytes = draft.any_record();
@@ -42,10 +44,11 @@ fn out_of_range(draft: &mut Draft) {
         let field = draft.draw.between(0, fields as u64 - 1) as usize;
         let at = 2 + form.fields[..field].iter().map(|field| field.width).sum::<usize>();
         let one = [0, 3, 9, 17, 25, 32, 49, 65, 97, 64, 128, 255, 16, 1, 8];
+        let two = [0, 745, 2_501, 1, 64, 301, u16::MAX];
         let four = [0, 1, MOST_KW + 1, 4_000_000_001, MOST_MINUTES + 1, u32::MAX];
         match form.fields[field].width {
             1 => bytes[at] = draft.draw.pick(&one),
-            2 => bytes[at..at + 2].copy_from_slice(&draft.draw.pick(&[0u16, 745, 2_501, u16::MAX]).to_le_bytes()),
+            2 => bytes[at..at + 2].copy_from_slice(&draft.draw.pick(&two).to_le_bytes()),
             _ => bytes[at..at + 4].copy_from_slice(&draft.draw.pick(&four).to_le_bytes()),
         }
         let (call, _) = record::read(&bytes, 0).expect("a drafted record is whole");
@@ -53,6 +56,37 @@ fn out_of_range(draft: &mut Draft) {
             draft.put_record(&bytes);
             return;
         }
+    }
+}
+
+/// 02 "A7": a record whose form does not take its consumer, often a declared one of the other form.
+fn foreign_consumer(draft: &mut Draft) {
+    let in_a_byte = draft.style.greatest == CONSUMERS_IN_A_BYTE || draft.draw.chance(50);
+    let of_the_other =
+        |consumer: &u16| (*consumer > CONSUMERS_IN_A_BYTE) == in_a_byte && (!in_a_byte || *consumer < 256);
+    let declared: Vec<u16> = draft.consumers().into_iter().filter(of_the_other).collect();
+    let consumer = if !declared.is_empty() && draft.draw.chance(60) {
+        draft.draw.pick(&declared)
+    } else if in_a_byte {
+        draft.draw.pick(&[0, 65, 66, 128, 200, 254, 255])
+    } else {
+        draft.draw.pick(&[0, 1, 63, 64, 301, 302, 320, 321, 512, u16::MAX])
+    };
+    let call = call_of_consumer(draft, consumer);
+    let form = row(call.form().name, if in_a_byte { 1 } else { 300 }).expect("the call has a form");
+    draft.put_record(&record::bytes_in(form, &call));
+}
+
+/// 01 "Journal records", 02 "A4": any of the five calls of a consumer.
+pub fn call_of_consumer(draft: &mut Draft, consumer: u16) -> Call<'static> {
+    let producer = any_producer(&mut draft.draw);
+    let q = draft.draw.near(draft.style.scale, MOST_KW).max(1);
+    match draft.draw.between(0, 4) {
+        0 => Call::Declare(Declare { consumer, d: q, a: q }),
+        1 => Call::Commit(Contract { producer, consumer, q }),
+        2 => Call::Release(Contract { producer, consumer, q }),
+        3 => Call::Meter(Meter { consumer, dreal: q }),
+        _ => Call::Mean(Mean { consumer, mean: q }),
     }
 }
 
@@ -168,11 +202,12 @@ fn sums_of_minutes(draft: &mut Draft) {
 
 /// 01 "Numbered replies", 10: a consumer not declared.
 fn undeclared(draft: &mut Draft) {
-    let consumers = draft.consumers(false);
+    let consumers = draft.undeclared();
     if consumers.is_empty() {
         return;
     }
-    let consumer = draft.draw.pick(&consumers);
+    let any = draft.any_consumer();
+    let consumer = if consumers.contains(&any) { any } else { draft.draw.pick(&consumers) };
     let producer = any_producer(&mut draft.draw);
     let q = draft.draw.near(draft.style.scale, MOST_KW).max(1);
     let call = match draft.draw.between(0, 3) {
@@ -186,7 +221,7 @@ fn undeclared(draft: &mut Draft) {
 
 /// 01 "Numbered replies", 11: a commitment of one kW more than is left, or of a producer without units.
 fn above_the_offers(draft: &mut Draft) {
-    let consumers = draft.consumers(true);
+    let consumers = draft.consumers();
     let producer = any_producer(&mut draft.draw);
     let consumer = draft.draw.pick(&consumers);
     let q = (draft.room(producer) + 1).min(MOST_KW.into()) as u32;
@@ -197,7 +232,7 @@ fn above_the_offers(draft: &mut Draft) {
 fn above_the_balance(draft: &mut Draft) {
     let pairs = draft.pairs();
     let (producer, consumer) = if pairs.is_empty() || draft.draw.chance(30) {
-        (any_producer(&mut draft.draw), any_consumer(&mut draft.draw))
+        (any_producer(&mut draft.draw), draft.any_consumer())
     } else {
         draft.draw.pick(&pairs)
     };

@@ -1,11 +1,15 @@
 //! Seeded random journals, plants and outage logs.
 
 mod calls;
+mod charges;
 mod demand;
 mod draft;
 mod draw;
 mod faults;
 pub mod logs;
+mod marks;
+#[cfg(test)]
+mod occurrences;
 pub mod plants;
 mod season;
 
@@ -17,7 +21,7 @@ use crate::book::Stage;
 use crate::call::{Call, Year, FORMS};
 use crate::journal::run;
 use crate::listing::MOST_BYTES;
-use crate::range::CONSUMERS;
+use crate::range::{CONSUMERS, CONSUMERS_IN_A_BYTE};
 use crate::record;
 use draft::Draft;
 use draw::Draw;
@@ -31,18 +35,21 @@ pub fn write_journals(seed: u64, count: u64, folder: &Path) -> io::Result<()> {
     Ok(())
 }
 
-/// One journal of a seed: a whole season, one about its first refusal, one about the end of a page, cut or damaged, one about the program's limit, or calls in any order.
+/// One journal of a seed: a whole season, one about its first refusal, about the end of a page, about the limit on charges or about a mark for
+/// consumers above 64, cut or damaged, one about the program's limit, or calls in any order.
 pub fn journal(seed: u64, number: u64) -> Vec<u8> {
     let mut draft = Draft::new(Draw::new(seed, number));
     match draft.draw.between(0, 999) {
-        0..=739 => season(&mut draft),
-        740..=789 => about_a_refusal(&mut draft),
-        790..=819 => about_a_page(&mut draft),
-        820..=879 => {
+        0..=689 => season(&mut draft),
+        690..=739 => about_a_refusal(&mut draft),
+        740..=789 => about_a_page(&mut draft),
+        790..=819 => charges::about_the_limit(&mut draft),
+        820..=849 => about_a_mark(&mut draft),
+        850..=894 => {
             season(&mut draft);
             cut(&mut draft);
         }
-        880..=949 => {
+        895..=949 => {
             season(&mut draft);
             damage(&mut draft);
         }
@@ -82,20 +89,36 @@ fn about_a_refusal(draft: &mut Draft) {
     }
     match draw.between(0, 2) {
         0 => {}
-        1 => journal.extend_from_slice(&FORMS[draw.between(0, 10) as usize].mark),
+        1 => journal.extend_from_slice(&any_mark(draw)),
         _ => journal.extend_from_slice(b"RY and so on"),
     }
 }
 
-/// 02 "A1": consumers alone, from 1 to 64 of them and often about the 50 of a page, up to the close.
+/// 01 "Journal records", 02 "A7": any mark that is known.
+fn any_mark(draw: &mut Draw) -> [u8; 2] {
+    FORMS[draw.between(0, FORMS.len() as u64 - 1) as usize].mark
+}
+
+/// 02 "A1", "A7": consumers alone, from 1 to 300 of them and often about the 50 of a page, up to the close.
 fn about_a_page(draft: &mut Draft) {
-    let any = draft.draw.byte(1, CONSUMERS as u8);
-    draft.style.consumers = draft.draw.pick(&[49, 50, 51, 52, any, any, any, any]);
+    let any = draft.draw.number(1, CONSUMERS as u16);
+    let about_the_end = [49, 50, 51, 52, 100, 101, 150, 151, 200, 201, 250, 251, 300];
+    draft.style.consumers = if draft.draw.chance(70) { draft.draw.pick(&about_the_end) } else { any };
+    draft.style.greatest =
+        if draft.style.consumers > CONSUMERS_IN_A_BYTE { CONSUMERS as u16 } else { draft.style.greatest };
     draft.style.units = 0;
     season::open(draft);
     season::gather(draft, MOST_BYTES);
     season::fix(draft);
     demand::close(draft);
+}
+
+/// 02 "A7": a season of 64 consumers with a mark for others, a stop, or both.
+fn about_a_mark(draft: &mut Draft) {
+    draft.style.greatest = CONSUMERS_IN_A_BYTE;
+    draft.style.consumers = draft.style.consumers.min(CONSUMERS_IN_A_BYTE);
+    season(draft);
+    marks::put_in(draft);
 }
 
 /// 01 "Numbered replies", 1: the journal up to any of its bytes.
@@ -117,12 +140,12 @@ fn damage(draft: &mut Draft) {
             journal.splice(place..place, garbage);
         }
         4 => {
-            let foreign: [u8; 2] = draw.pick(&[*b"at", *b"dm", *b"YG", *b"LV", *b"TP", *b"yr", *b"RY", *b"\0\0"]);
+            let foreign: [u8; 2] = draw.pick(&[*b"ta", *b"md", *b"YG", *b"LV", *b"TP", *b"yr", *b"RY", *b"\0\0"]);
             journal.extend_from_slice(&foreign);
             journal.extend_from_slice(&garbage);
         }
         _ => {
-            let mark = FORMS[draw.between(0, 10) as usize].mark;
+            let mark = any_mark(draw);
             *journal = [&mark[..], &garbage].concat();
         }
     }
@@ -138,7 +161,7 @@ fn at_the_limit(draft: &mut Draft) {
         season::fill_with_tests(draft, length * 3 / 4);
     }
     season::fix(draft);
-    season::contract(draft, u64::MAX, length - 8_000);
+    season::contract(draft, u64::MAX, length - 8_000 - 16 * usize::from(draft.style.consumers));
     demand::close(draft);
     pad(draft, length);
 }
@@ -171,60 +194,12 @@ fn any_order(draft: &mut Draft) {
 
 #[cfg(test)]
 mod tests {
-    use super::*;
-    use crate::book::{Book, Plant};
-    use crate::journal::run_with;
-    use crate::offer;
+    use super::journal;
 
     #[test]
     fn a_seed_and_a_number_give_one_journal() {
         assert_eq!(journal(7, 3), journal(7, 3));
         assert_ne!(journal(7, 3), journal(7, 4));
         assert_ne!(journal(7, 3), journal(8, 3));
-    }
-
-    #[test]
-    fn every_number_of_a_journal_occurs_and_most_journals_close() {
-        let mut met = [0; 17];
-        let mut closed = 0;
-        for number in 0..600 {
-            let run = run_with(&journal(1, number), |_, _, reply| met[usize::from(reply)] += 1);
-            if let Some(stop) = run.stop {
-                met[stop as usize] += 1;
-            }
-            closed += u32::from(run.book.stage == Stage::Closed);
-        }
-        // 15 is of the writer and the division alone.
-        assert!((0..=16).all(|number| met[number] >= 5 || number == 15), "{met:?}");
-        assert_eq!(met[15], 0);
-        assert!(closed > 450);
-    }
-
-    #[test]
-    fn watts_would_at_times_choose_the_second_year_in_place_of_the_first() {
-        let mut others = 0;
-        for number in 0..2_000 {
-            let Book { stage: Stage::Firm | Stage::Closed, plants, hours, .. } = run(&journal(1, number)).book else {
-                continue;
-            };
-            let units = || plants.iter().flatten();
-            let in_watts = |plant: &Plant| offer::offer_in_watts(&plant.unit, &plant.parts, &hours);
-            let kilowatts: Vec<(u8, u64)> = units().map(|plant| (plant.unit.flags, plant.offer)).collect();
-            let watts: Vec<(u8, u64)> = units().map(|plant| (plant.unit.flags, in_watts(plant))).collect();
-            others += u32::from(offer::chosen_year(&kilowatts) == 1 && offer::chosen_year(&watts) == 2);
-        }
-        assert!(others >= 20, "{others}");
-    }
-
-    #[test]
-    fn closed_years_have_few_and_many_consumers_and_those_about_the_end_of_a_page() {
-        let mut years = [0; CONSUMERS + 1];
-        for number in 0..2_000 {
-            let book = run_with(&journal(1, number), |_, _, _| {}).book;
-            if book.stage == Stage::Closed {
-                years[book.consumers.iter().flatten().count()] += 1;
-            }
-        }
-        assert!([1, 3, 49, 50, 51, 52, 63, 64].iter().all(|&consumers| years[consumers] >= 2), "{years:?}");
     }
 }

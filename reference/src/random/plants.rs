@@ -67,7 +67,8 @@ struct Sketch {
 impl Sketch {
     /// 01 "Maximum power": tests of one component, mostly until there is a result.
     fn tests(&mut self, component: usize, scale: u32) {
-        let style = Style { scale, producers: 1, consumers: 0, units: 1, alike: false, tied: false, errors: 0 };
+        let style =
+            Style { scale, producers: 1, consumers: 0, greatest: 0, units: 1, alike: false, tied: false, errors: 0 };
         for _ in 0..self.draw.between(1, 3) {
             let Trial { ending, tc, readings } = calls::trial(&mut self.draw, &style);
             let count = readings.len();

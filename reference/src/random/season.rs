@@ -2,12 +2,12 @@
 
 use super::calls;
 use super::demand;
-use super::draft::{any_consumer, shuffle, shuffled, test_record, Draft};
+use super::draft::{shuffle, test_record, Draft, BOUNDARIES};
 use super::faults::fault;
 use crate::book::Stage;
 use crate::call::{Availability, Call, Contract, Declare, FIRST_YEAR, SECOND_YEAR};
 use crate::plant::Minutes;
-use crate::range::{CONSUMERS, MOST_KW, PRODUCERS, UNITS};
+use crate::range::{MOST_KW, PRODUCERS, UNITS};
 use crate::record;
 
 /// Adds faults at the style's rate.
@@ -26,22 +26,20 @@ pub fn open(draft: &mut Draft) {
 
 /// 01 "The book": units with tests and availabilities, and declarations, in a drawn order.
 pub fn gather(draft: &mut Draft, most_bytes: usize) {
-    let (units, consumers) = (draft.style.units, draft.style.consumers);
-    let mut deeds: Vec<(bool, u8)> = Vec::new();
+    let mut deeds: Vec<(bool, u16)> = Vec::new();
     let scattered = draft.draw.chance(40);
-    let mut numbers = |most: u8, wanted: u8| -> Vec<u8> {
-        let mut numbers = if scattered { shuffled(&mut draft.draw, most) } else { (1..=most).collect() };
-        numbers.truncate(wanted.into());
-        numbers
-    };
-    deeds.extend(numbers(UNITS as u8, units).into_iter().map(|unit| (true, unit)));
-    deeds.extend(numbers(CONSUMERS as u8, consumers).into_iter().map(|consumer| (false, consumer)));
+    let mut units: Vec<u16> = (1..=UNITS as u16).collect();
+    if scattered {
+        shuffle(&mut draft.draw, &mut units);
+    }
+    deeds.extend(units.into_iter().take(draft.style.units.into()).map(|unit| (true, unit)));
+    deeds.extend(declaring(draft, scattered).into_iter().map(|consumer| (false, consumer)));
     shuffle(&mut draft.draw, &mut deeds);
     let mut at = 0;
     while at < deeds.len() && draft.journal.len() < most_bytes {
         perhaps_fault(draft);
         match deeds[at] {
-            (true, unit) => plant(draft, unit),
+            (true, unit) => plant(draft, unit as u8),
             (false, consumer) => declare(draft, consumer),
         }
         if draft.draw.chance(12) {
@@ -49,6 +47,23 @@ pub fn gather(draft: &mut Draft, most_bytes: usize) {
         }
         at += 1;
     }
+}
+
+/// 02 "A7": the consumers that declare, the first ones, or any of the style, often those at the ends of the forms' ranges before the others.
+fn declaring(draft: &mut Draft, scattered: bool) -> Vec<u16> {
+    let Draft { draw, style, .. } = draft;
+    let mut numbers: Vec<u16> = (1..=style.greatest).collect();
+    if scattered {
+        shuffle(draw, &mut numbers);
+        if draw.chance(50) {
+            let (mut at_the_ends, others): (Vec<u16>, Vec<u16>) =
+                numbers.iter().partition(|number| BOUNDARIES.contains(number));
+            at_the_ends.extend(others);
+            numbers = at_the_ends;
+        }
+    }
+    numbers.truncate(style.consumers.into());
+    numbers
 }
 
 /// 01 "The book": one unit with all that its offer needs, most of the time; a twin in the other year if years tie.
@@ -142,14 +157,14 @@ fn availability(draft: &mut Draft, unit: u8, component: u8) {
 }
 
 /// 01 "The book": a declaration of one consumer.
-fn declare(draft: &mut Draft, consumer: u8) {
+fn declare(draft: &mut Draft, consumer: u16) {
     let declare = calls::declare(&mut draft.draw, &draft.style, consumer);
     draft.put(&Call::Declare(declare));
 }
 
 /// 01 "The book": a later test, availability or declaration replaces the earlier.
 fn replace(draft: &mut Draft) {
-    let (units, consumers) = (draft.units(true), draft.consumers(true));
+    let (units, consumers) = (draft.units(true), draft.consumers());
     if !units.is_empty() && draft.draw.chance(60) {
         let unit = draft.draw.pick(&units);
         let kind = draft.book.plants[usize::from(unit) - 1].map_or(1, |plant| plant.unit.kind);
@@ -180,7 +195,7 @@ pub fn fix(draft: &mut Draft) {
     let sum: u64 = draft.book.consumers.iter().flatten().map(|consumer| u64::from(consumer.d)).sum();
     if sum == 0 {
         draft.put(&Call::Fix(10_000));
-        let consumer = any_consumer(&mut draft.draw);
+        let consumer = draft.any_consumer();
         draft.put(&Call::Declare(Declare { consumer, d: draft.style.scale, a: draft.style.scale }));
     }
     perhaps_fault(draft);
@@ -197,7 +212,7 @@ pub fn fix(draft: &mut Draft) {
 
 /// 01 "The book": `steps` commitments and releases near their limits, and real demands.
 pub fn contract(draft: &mut Draft, steps: u64, most_bytes: usize) {
-    let consumers = draft.consumers(true);
+    let consumers = draft.consumers();
     for _ in 0..steps {
         if consumers.is_empty() || draft.book.stage != Stage::Firm || draft.journal.len() >= most_bytes {
             return;
@@ -213,7 +228,7 @@ pub fn contract(draft: &mut Draft, steps: u64, most_bytes: usize) {
 }
 
 /// 01 "Numbered replies", 11: a commitment up to the limit, seldom just above.
-fn commit(draft: &mut Draft, consumer: u8) {
+fn commit(draft: &mut Draft, consumer: u16) {
     let able: Vec<u8> = (1..=PRODUCERS as u8).filter(|&producer| draft.room(producer) > 0).collect();
     let producer = if able.is_empty() || draft.draw.chance(10) {
         draft.draw.byte(1, draft.style.producers)

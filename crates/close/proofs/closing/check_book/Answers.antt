@@ -12,5 +12,5 @@ pub returns : goal.returns
 returns c =
     let b = c.args.book.now in
     c.check_close.ensures
-    ∙ ap (λ (total : ℕ). close_number_by b.stage b.dmp total c.real_demands-reals.result c.args.p) c.total_declared-total.ensures
-    ∙ ap (λ (reals : List (Option ℕ)). close_number_by b.stage b.dmp (sum (weights_of b.consumers)) reals c.args.p) c.real_demands-reals.ensures
+    ∙ ap (λ (total : ℕ). close_number_by b.stage b.dmp total c.real_demands-reals.result b.consumers c.args.p) c.total_declared-total.ensures
+    ∙ ap (λ (reals : List (Option ℕ)). close_number_by b.stage b.dmp (sum (weights_of b.consumers)) reals b.consumers c.args.p) c.real_demands-reals.ensures

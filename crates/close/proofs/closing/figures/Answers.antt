@@ -7,7 +7,7 @@ use Rattle.basis.specs.Sums.{sum, all_at_most}
 use Rattle.basis.proofs.Sums.{all_at_most_lem}
 use Rattle.quantities.specs.Limits.{greatest_power, consumers}
 use Rattle.close.specs.Close.{adjusted_in}
-use Rattle.close.proofs.CloseLaws.{all_adjusted_lem, each_within, charges_by_consumer, surpluses_by_consumer, figures_with}
+use Rattle.close.proofs.CloseLaws.{all_adjusted_lem, each_within, charges_by_dfa, surpluses_by_consumer, figures_with}
 use Rattle.close.proofs.closing.figures.Goals as goal
 
 pub adjusted-adjusted-requires : goal.adjusted-adjusted-requires
@@ -35,7 +35,7 @@ returns c =
     let credited : c.sum-credited.result ≡ sum credits = search rules in
     figures_with a.p a.dmp xs c.adjusted-adjusted.result charges surpluses credits c.sum-charged.result c.sum-credited.result _
     dfa
-    (c.charges-charges.ensures.each ∙ charges_by_consumer a.dmp c.adjusted-adjusted.result xs dfa all a.p)
+    (c.charges-charges.ensures.each ∙ charges_by_dfa a.p a.dmp xs dfa)
     (c.surpluses-surpluses.ensures ∙ surpluses_by_consumer a.dmp c.adjusted-adjusted.result xs dfa all)
     charged
     c.credits-credits.ensures.each

@@ -3,7 +3,7 @@
 use mathlib.Core.Path.{◌∙◌}
 use native.Mathlib.Omega.{arith}
 use lib.ListN.{length}
-use Rattle.share.proofs.Accepted.{accepted, sum_fits, ready, made}
+use Rattle.share.proofs.Accepted.{accepted, sum_fits, sum_small, ready, made}
 use Rattle.share.proofs.parts.share_out.Goals as goal
 use Rattle.share.proofs.parts.share_out.Goals.{Start}
 
@@ -19,6 +19,7 @@ whole_parts-left-requires c =
     record {
       total_le_greatest_total = (a.total, a.weights);
       whole_nonzero = (omega (arith, e, a.positive), e);
+      whole_small = omega (arith, e, sum_small c.args.weights.now a.weights a.most);
       amounts_len = c.requires.amounts_len;
     }
 

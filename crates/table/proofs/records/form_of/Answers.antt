@@ -3,7 +3,7 @@ use Rattle.std.proofs.Common.{◌≡◌, ◌<◌, ◌∙◌, arith, rules, ap, l
 use Rattle.basis.specs.Sums.{sum}
 use Rattle.basis.proofs.Made.{mapped}
 use Rattle.table.specs.Records.{most_fields}
-use Rattle.table.specs.declared.lines.Column.{Column}
+use Rattle.table.specs.declared.columns.Column.{Column}
 use Rattle.table.specs.declared.lines.Line.{Line}
 use Rattle.table.proofs.Table.{lawful, widths_small}
 use Rattle.table.proofs.records.form_of.Goals as goal

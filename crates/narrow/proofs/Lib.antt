@@ -1,0 +1,2 @@
+-- Laws of the converter.
+pub mod Turns

@@ -1,0 +1,2 @@
+-- Definitions of the converter.
+pub mod Narrow
