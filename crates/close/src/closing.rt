@@ -4,7 +4,7 @@ ghost use Rattle.basis.specs.Sums.{all_at_most};
 ghost use Rattle.quantities.specs.Limits.{greatest_power, greatest_price};
 ghost use Rattle.quantities.specs.Refusals.{met};
 ghost use Rattle.state.specs.State.{reply_with, replied};
-ghost use Rattle.close.specs.Close.{adjusted_in, figures_of, close_number_by, close_number, close_of};
+ghost use Rattle.close.specs.Close.{adjusted_in, figures_of, close_number_by, close_number, closed, close_of};
 
 use crate::adjusted::{adjusted, is_heard, is_within, real_demands, total_declared};
 use crate::money::{charges, check_charges, credits, surpluses};
@@ -66,14 +66,23 @@ fn check_book(book: &Book, p: u32) -> Result<(), Refusal>
     check_close(book.stage, book.dmp, total, &reals, &book.consumers, p)
 }
 
-// The close in place: the figures are worked out beside the book, and put into it once every check has passed.
-#[tactic(auto, unfolding(crate::specs::Close::closed, crate::specs::Close::close_of))]
+// The figures of a close that every check has passed: they are worked out beside the book, and put into it. For our own crates and not for buyers.
+#[tactic(auto, unfolding(crate::specs::Close::closed))]
+pub fn put_closed(book: &mut Book, p: u32)
+    requires { close_number book.old p ≡ 0 }
+    ensures { book.new ≡ closed book.old p }
+{
+    book.closing = figures(p, book.dmp, &book.consumers);
+    book.stage = Stage::Closed;
+}
+
+// The close in place.
+#[tactic(auto, unfolding(crate::specs::Close::close_of))]
 pub fn settle_close(book: &mut Book, p: u32) -> Result<(), Refusal>
     ensures { reply_with (met result) book.new ≡ close_of book.old p }
 {
     check_book(book, p)?;
-    book.closing = figures(p, book.dmp, &book.consumers);
-    book.stage = Stage::Closed;
+    put_closed(book, p);
     Ok(())
 }
 

@@ -6,4 +6,4 @@ mod closing; // closing.rt: the close
 mod money; // money.rt: positive adjustments, charges and credits
 
 pub use adjusted::{real_demand, real_demands, total_declared};
-pub use closing::{check_close, close, settle_close};
+pub use closing::{check_close, close, put_closed, settle_close};

@@ -26,7 +26,7 @@ use Rattle.state.specs.declared.kept.Book.{Book}
 use Rattle.state.specs.Places.{place_of}
 use Rattle.state.specs.State.{Reply, reply_with, reply_of, fresh_consumer, stage_number, with_consumers}
 use Rattle.fix.specs.Fix.{declared_by, weights_of}
-use Rattle.close.specs.Close.{real_demand, reals_of, close_number_by, close_number, closed, close_of}
+use Rattle.close.specs.Close.{real_demand, reals_of, close_number_by, close_number, closed}
 use Rattle.book.specs.Year.{year_number, begun, year_of}
 use Rattle.decision.specs.Consumers.{consumer_rest, consumer_after, consumer_number, consumer_answer_of, consumer_of}
 use Rattle.decision.specs.ContractCalls.{after_contract, contract_of}
@@ -112,7 +112,7 @@ module _ (b : Book) (consumer : ℕ) (act : ConsumerCall) (place : ℕ) {after :
             λ s. ap (λ l. set l place (real_demand (get_or (set b.consumers place (consumer_after act old)) place fresh_consumer))) (r.reals_right s) ∙ sym (map_replaced real_demand b.consumers place (consumer_after act old));
       })
 
--- the year and the close lead to other stages; refused, they leave the book
+-- the year leads to another stage, and refused leaves the book; so does a close that is accepted
 pub ready_year : (b : Book) (hours : Hours) {after : Book} {number total : ℕ} {reals : List (Option ℕ)} → reply_with number after ≡ year_of b hours → Ready b total reals → Ready after total reals
 unfolding year_of begun
 ready_year b hours {after} {number} {total} {reals} e r = rw (ap (λ (q : Reply). q.book) e) (go (eqb (year_number b hours) 0))
@@ -121,13 +121,9 @@ ready_year b hours {after} {number} {total} {reals} e r = rw (ap (λ (q : Reply)
     go true = not_firm r.count (λ s. omega (arith, s))
     go false = r
 
-pub ready_close : (b : Book) (p : ℕ) {after : Book} {number total : ℕ} {reals : List (Option ℕ)} → reply_with number after ≡ close_of b p → Ready b total reals → Ready after total reals
-unfolding close_of closed
-ready_close b p {after} {number} {total} {reals} e r = rw (ap (λ (q : Reply). q.book) e) (go (eqb (close_number b p) 0))
-  where
-    go : (t : Bool) → Ready (pick t (closed b p) b) total reals
-    go true = not_firm r.count (λ s. omega (arith, s))
-    go false = r
+pub ready_closed : (b : Book) (p : ℕ) {after : Book} {total : ℕ} {reals : List (Option ℕ)} → after ≡ closed b p → length reals ≡ consumers → Ready after total reals
+unfolding closed
+ready_closed b p {after} e n = not_firm n (λ s. omega (arith, ap (λ (x : Book). stage_number x.stage) e, s))
 
 -- in another stage a close's number does not depend on them
 other_stage : (stage : Stage) (dmp total₁ total₂ : ℕ) (reals₁ reals₂ : List (Option ℕ)) (xs : List Consumer) (p : ℕ) → eqb (stage_number stage) 2 ≡ false → close_number_by stage dmp total₁ reals₁ xs p ≡ close_number_by stage dmp total₂ reals₂ xs p

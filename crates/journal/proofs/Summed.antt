@@ -34,7 +34,7 @@ use Rattle.state.specs.declared.kept.Declaration.{Declaration}
 use Rattle.state.proofs.Cells.{row_before, sum_row_set, row_other}
 use Rattle.power.specs.declared.component.Hours.{Hours}
 use Rattle.fix.specs.Fix.{greatest_limit, offers_of, efficient_in, limit_of, limits_of, fix_number, fixed, fix_of}
-use Rattle.close.specs.Close.{closed, close_of}
+use Rattle.close.specs.Close.{closed}
 use Rattle.book.specs.Year.{begun, year_of}
 use Rattle.decision.specs.Consumers.{is_declared, known, after_consumer, consumer_of}
 use Rattle.decision.specs.ContractCalls.{producer_balance, contract_rest, balance_after, contract_number, after_contract, contract_of}
@@ -200,7 +200,7 @@ module _ {limits balances sums : List ℕ} (s : Summed limits balances sums) (pr
       go true h = let k = between_true 1 producers producer h in sum_there s (record { least = k.0; most = k.1 })
       go false h = refl
 
--- a year, a fix, a close and a call of a consumer leave the balances
+-- a year, a fix and a call of a consumer leave the balances, and so does a close, below
 module _ (b : Book) {after : Book} {number : ℕ} {sums : List ℕ} (s : Summed b.limits b.balances sums) where
   pub year_summed : (hours : Hours) → reply_with number after ≡ year_of b hours → Summed after.limits after.balances sums
   unfolding year_of begun
@@ -221,10 +221,10 @@ module _ (b : Book) {after : Book} {number : ℕ} {sums : List ℕ} (s : Summed 
           few k (inr h) = rw (get_or_past (tab each producers) k 0 (omega (arith, length-tab each producers))) zero-le
       go false = s
 
-  pub close_summed : (p : ℕ) → reply_with number after ≡ close_of b p → Summed after.limits after.balances sums
-  unfolding close_of closed
-  close_summed p e = summed_aside b (closed b p) refl refl e s
-
   pub consumer_summed : (consumer : ℕ) (act : ConsumerCall) → reply_with number after ≡ consumer_of b consumer act → Summed after.limits after.balances sums
   unfolding consumer_of after_consumer
   consumer_summed consumer act e = summed_aside b (after_consumer b consumer act) refl refl e s
+
+pub closed_summed : (b : Book) (p : ℕ) {after : Book} {sums : List ℕ} → Summed b.limits b.balances sums → after ≡ closed b p → Summed after.limits after.balances sums
+unfolding closed
+closed_summed b p s e = rw e s

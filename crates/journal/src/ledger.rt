@@ -7,14 +7,14 @@ ghost use Rattle.state.specs.State.{fresh_book, reply_with};
 ghost use Rattle.record.specs.Reading.{part_of};
 ghost use Rattle.book.specs.Step.{step_of};
 ghost use Rattle.fix.specs.Fix.{fix_of};
-ghost use Rattle.close.specs.Close.{close_of};
+ghost use Rattle.close.specs.Close.{close_number, closed, close_of};
 ghost use Rattle.book.specs.Year.{year_of};
 ghost use Rattle.decision.specs.Consumers.{consumer_of};
 ghost use Rattle.decision.specs.ContractCalls.{producer_balance, contract_of};
 ghost use Rattle.journal.specs.Ledger.{Ready, Summed};
 
 use book::{settle_consumer, settle_contract_by, settle_unit, settle_year};
-use close::{check_close, real_demand, real_demands, settle_close, total_declared};
+use close::{check_close, put_closed, real_demand, real_demands, total_declared};
 use fix::{check_fix, settle_fix};
 use power::Hours;
 use quantities::{CONSUMERS, PRODUCERS, Refusal};
@@ -112,14 +112,16 @@ impl Ledger {
             &self.book.consumers,
             p,
         )?;
-        self.close(p)
+        self.close(p);
+        Ok(())
     }
 
     #[inline(never)]
-    fn close(&mut self, p: u32) -> Result<(), Refusal>
-        ensures { reply_with (met result) self.new.book ≡ close_of self.old.book p }
+    fn close(&mut self, p: u32)
+        requires { close_number self.old.book p ≡ 0 }
+        ensures { self.new.book ≡ closed self.old.book p }
     {
-        settle_close(&mut self.book, p)
+        put_closed(&mut self.book, p);
     }
 
     // The sum of a producer's balances, 0 where there is no such producer: a match, of which the proof names each case.
