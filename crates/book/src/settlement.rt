@@ -27,7 +27,8 @@ pub fn settle_unit(
     Ok(())
 }
 
-// A call of a consumer.
+// A call of a consumer. Inlined, with what decides it: where the act is known, only what it changes is stored.
+#[inline(always)]
 pub fn settle_consumer(book: &mut Book, consumer: u32, act: ConsumerCall) -> Result<(), Refusal>
     ensures { reply_with (met result) book.new ≡ consumer_of book.old consumer act }
 {

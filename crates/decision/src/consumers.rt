@@ -29,6 +29,7 @@ fn check_metered(stage: Stage, declaration: Declaration) -> Result<(), Refusal>
 
 // A call of a consumer, decided from the stage and the consumer: a refusal, or the consumer that is to be stored. Its parameters come apart,
 // as the match over the call that chose this function has them.
+#[inline(always)]
 #[tactic(auto, unfolding(table::specs::Ranges::call_number, table::specs::Ranges::rest_in_range, crate::specs::Consumers::consumer_answer_of, crate::specs::Consumers::consumer_number, crate::specs::Consumers::consumer_rest, crate::specs::Consumers::consumer_after))]
 pub fn consumer_answer(
     consumer: u32,

@@ -46,18 +46,19 @@ impl Ledger {
         }
     }
 
-    // The call of a record, whose readings are the part of the journal between two places; only a call of a unit looks at them.
+    // The call of a record, whose readings are the part of the journal between two places; only a call of a unit looks at them. It is lent,
+    // since a copy of each is felt in a run: a bar of speed binds it.
     #[tactic(auto, using(crate::proofs::Ready::ready_aside, crate::proofs::Summed::summed_aside), unfolding(book::specs::Step::step_of, gathering::specs::Units::unit_of, gathering::specs::Units::after_unit, decision::specs::ContractCalls::contract_of, decision::specs::ContractCalls::after_contract))]
     pub(crate) fn take(
         &mut self,
-        call: Call,
+        call: &Call,
         journal: &[u8],
         from: usize,
         to: usize,
     ) -> Result<(), Refusal>
-        ensures { reply_with (met result) self.new.book ≡ step_of self.old.book call (part_of journal.now from to) }
+        ensures { reply_with (met result) self.new.book ≡ step_of self.old.book call.now (part_of journal.now from to) }
     {
-        match call {
+        match *call {
             Call::Year(hours) => self.take_year(hours),
             Call::Fix { dmp } => self.take_fix(dmp),
             Call::Close { p } => self.take_close(p),
@@ -153,13 +154,32 @@ impl Ledger {
         Ok(())
     }
 
+    // A call of a consumer, whose real demand is kept beside the book.
+    #[inline(always)]
     #[tactic(auto, using(crate::proofs::Ready::refused_book), unfolding(decision::specs::Consumers::consumer_of))]
-    fn take_consumer(&mut self, consumer: u32, act: ConsumerCall) -> Result<(), Refusal>
+    fn consumer_act(&mut self, consumer: u32, act: ConsumerCall) -> Result<(), Refusal>
         ensures { reply_with (met result) self.new.book ≡ consumer_of self.old.book consumer act }
     {
         settle_consumer(&mut self.book, consumer, act)?;
         let place = consumer_place(consumer);
         self.reals[place] = real_demand(self.book.consumers[place]);
         Ok(())
+    }
+
+    // The same, with a copy of the code for each act, which stores what the act changes and nothing else: a bar of speed binds the run.
+    fn take_consumer(&mut self, consumer: u32, act: ConsumerCall) -> Result<(), Refusal>
+        ensures { reply_with (met result) self.new.book ≡ consumer_of self.old.book consumer act }
+    {
+        match act {
+            ConsumerCall::Declare { d, a } => self.consumer_act(
+                consumer,
+                ConsumerCall::Declare { d, a },
+            ),
+            ConsumerCall::Meter { dreal } => self.consumer_act(
+                consumer,
+                ConsumerCall::Meter { dreal },
+            ),
+            ConsumerCall::Mean { mean } => self.consumer_act(consumer, ConsumerCall::Mean { mean }),
+        }
     }
 }

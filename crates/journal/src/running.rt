@@ -19,11 +19,11 @@ pub fn run(journal: &[u8]) -> Run
             call,
             readings,
             next,
-        } = read
+        } = &read
         else {
             return tally.ended(ledger.book, stop_number(read));
         };
-        let answer = ledger.take(call, journal, readings, next);
-        tally.count(answer, next);
+        let answer = ledger.take(call, journal, *readings, *next);
+        tally.count(answer, *next);
     }
 }

@@ -9,6 +9,7 @@ ghost use Rattle.quantities.specs.Refusals.{filled};
 ghost use Rattle.listing.specs.Listing.{listing_of, listing_most, Lists};
 
 use journal::Run;
+use lines::push_listing;
 pub use lines::{LONGEST, listing};
 pub use output::{MOST_INPUT, put_output};
 pub use quantities::Refusal;
@@ -32,5 +33,7 @@ fn put_whole<const N: usize>(text: &Text<N>, out: &mut [u8]) -> Result<usize, Re
 pub fn put_listing(run: &Run, out: &mut [u8]) -> Result<usize, Refusal>
     ensures { Lists (listing_of run.now) out.old (filled result) out.new }
 {
-    put_whole(&listing(run), out)
+    let mut lines = Text::new();
+    push_listing(run, &mut lines);
+    put_whole(&lines, out)
 }

@@ -61,17 +61,25 @@ fn push_stage(book: &Book, lines: &mut Text<LONGEST>)
     }
 }
 
-// The whole listing.
+// The whole listing, into a text that is empty: it is the caller's, so that its bytes are never copied.
 #[inline(never)]
 #[tactic(auto, unfolding(crate::specs::Listing::listing_of))]
+pub(crate) fn push_listing(run: &Run, lines: &mut Text<LONGEST>)
+    requires { length lines.old ≤ 0 }
+    ensures { lines.new ≡ lines.old ++ listing_of run.now }
+{
+    push_stage(&run.book, lines);
+    lines.push_text(&line(
+        b'R',
+        &[run.read.into(), run.accepted.into(), run.refused.into()],
+    ));
+}
+
+// The same as a text of its own.
 pub fn listing(run: &Run) -> Text<LONGEST>
     ensures { result ≡ listing_of run.now }
 {
     let mut listing = Text::new();
-    push_stage(&run.book, &mut listing);
-    listing.push_text(&line(
-        b'R',
-        &[run.read.into(), run.accepted.into(), run.refused.into()],
-    ));
+    push_listing(run, &mut listing);
     listing
 }

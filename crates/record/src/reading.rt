@@ -110,8 +110,9 @@ fn read_each(journal: &[u8], at: usize, mark: Mark) -> Read
     }
 }
 
-// What stands at a place of a journal; any journal and any place are taken. Each case has an answer of its own: a match, and no map.
-#[inline(always)]
+// What stands at a place of a journal; any journal and any place are taken. Each case has an answer of its own: a match, and no map. Never inlined:
+// on its own, the match that finds a mark leads straight to the mark's own code; inside the run the mark would be asked a second time.
+#[inline(never)]
 #[tactic(auto, using(crate::proofs::Reader::at_end, crate::proofs::Reader::at_one))]
 pub fn read_at(journal: &[u8], at: usize) -> Read
     ensures { result ≡ read_at journal.now at }

@@ -1,7 +1,7 @@
--- `journal::ledger::Ledger::take_consumer` meets its contract: the real demand of the consumer is kept beside the book. Assumes nothing.
+-- `journal::ledger::Ledger::consumer_act` meets its contract: the real demand of the consumer is kept beside the book. Assumes nothing.
 use Rattle.journal.proofs.Ready.{ready_stored}
 use Rattle.journal.proofs.Summed.{consumer_summed}
-use Rattle.journal.proofs.ledger.Ledger.take_consumer.Goals as goal
+use Rattle.journal.proofs.ledger.Ledger.consumer_act.Goals as goal
 
 pub invariant_of-self-2 : goal.invariant_of-self-2
 invariant_of-self-2 c =
