@@ -5,7 +5,7 @@ use Prim.Native.Nat.{ℕ, zero, suc, ◌+◌, ◌-◌, ◌*◌, ◌/◌, ◌%◌
 use native.Mathlib.Nat.{pow-succ', pow-le-pow_right, mul_comm, mul_assoc, mul-add, add-zero, zero-add, add-suc, suc-add, add_assoc, mod-lt, div-add-mod', mul-le-mul_left, le_refl, mul-suc, zero-lt-suc, add-mul-div_left, add-mul-mod_self_left, mod-eq_of_lt, div-eq_of_lt, div-lt_iff_lt-mul}
 use native.Mathlib.Omega.{arith}
 use lib.ListN.{length, get_or, set, take, drop, length-append, length-take, length-drop, length-set, take-append-drop}
-use lib.Seq.{take-suc-set, drop-set-lt, get_or-drop, take_all, length-take-le, drop-drop}
+use lib.Seq.{drop-cons, take-suc-set, drop-set-lt, get_or-drop, take_all, length-take-le, drop-drop}
 use borrow.Rule.Slice.PartMut.{put_mid}
 use Rattle.std.specs.List.{flat_map}
 use Rattle.std.proofs.lemmas.List.{take_more, take_more_set}
@@ -47,6 +47,11 @@ number_at_below w s at h =
     let p : n ≤ w = omega (arith, length-take w (drop at s)) in
     omega (arith, number_below (take w (drop at s)) (bytes_take w (drop at s) (bytes_drop at s h)), pow-le-pow_right {n = 256} (omega arith) p)
 
+-- one byte more, in front
+pub number_at_more : (w : ℕ) (s : List ℕ) (at : ℕ) → at < length s → number_at (suc w) s at ≡ get_or s at 0 + 256 * number_at w s (suc at)
+unfolding number
+number_at_more w s at h = rw (drop-cons s at 0 h) refl
+
 -- what the bytes of a number stand for
 pub number-bytes_of : (w x : ℕ) → x < 256 ^ w → number (bytes_of w x) ≡ x
 unfolding number bytes_of
@@ -54,6 +59,12 @@ number-bytes_of zero x h = omega arith
 number-bytes_of (suc w) x h =
     let p : x / 256 < 256 ^ w = (div-lt_iff_lt-mul {k = 256} (omega arith)).1 (rw (← native.Mathlib.Nat.pow-suc 256 w) h) in
     omega (arith, number-bytes_of w (x / 256) p)
+
+pub bytes-bytes_of : (w x : ℕ) → Bytes (bytes_of w x)
+unfolding bytes_of
+bytes-bytes_of zero x k = omega arith
+bytes-bytes_of (suc w) x zero = omega arith
+bytes-bytes_of (suc w) x (suc k) = bytes-bytes_of w (x / 256) k
 
 -- the bytes of the number that bytes stand for
 pub bytes_of-number : (s : List ℕ) → Bytes s → bytes_of (length s) (number s) ≡ s

@@ -2,8 +2,9 @@
 use mathlib.Core.Path.{◌≡◌, refl, sym, ap, ◌∙◌}
 use mathlib.Core.Bool.{true}
 use mathlib.Core.List.{List, [], ◌∷◌}
+use mathlib.Core.Logic.{⊎_elim}
 use Prim.Native.Nat.{ℕ, zero, suc, ◌+◌, ◌*◌, ◌≤◌, ◌<◌, zero-le}
-use native.Mathlib.Nat.{suc-mul, mul-zero, le_refl}
+use native.Mathlib.Nat.{eq-or-lt_of_le, le_of_suc-le-suc, not-suc-le-zero, suc-mul, mul-add, mul-zero, le_refl}
 use native.Mathlib.Numerals.{add-one}
 use native.Mathlib.Omega.{arith}
 use borrow.Author.Tests.{leb-true, le-leb}
@@ -30,6 +31,10 @@ at_most_sum [] i = zero-le
 at_most_sum (x ∷ l) zero = omega (arith, sum-cons x l)
 at_most_sum (x ∷ l) (suc i) = omega (arith, sum-cons x l, at_most_sum l i)
 
+-- nothing but zeros adds up to 0
+pub sum_of_zeros : (l : List ℕ) → sum l ≡ 0 → (k : ℕ) → get_or l k 0 ≡ 0
+sum_of_zeros l e k = omega (arith, at_most_sum l k)
+
 -- one element changed
 pub sum-set : (l : List ℕ) (i v : ℕ) → i < length l → sum (set l i v) + get_or l i 0 ≡ sum l + v
 sum-set l i v h = sum_by-set (λ (n : ℕ). n) l i v 0 h
@@ -55,10 +60,41 @@ sum_up_at_most m f zero h = zero-le
 sum_up_at_most m f (suc n) h =
     omega (arith, suc-mul n m, h n (le_refl (suc n)), sum_up_at_most m f n (λ k p. h k (omega arith)))
 
+pub term_at_most : (f : ℕ → ℕ) (n k : ℕ) → k < n → f k ≤ sum_up f n
+unfolding sum_up
+term_at_most f zero k h = absurd (not-suc-le-zero h)
+term_at_most f (suc n) k h =
+    ⊎_elim (λ (e : k ≡ n). rw e (omega arith)) (λ (p : k < n). omega (arith, term_at_most f n k p))
+    (eq-or-lt_of_le (le_of_suc-le-suc h))
+
 pub sum_up_same : (f g : ℕ → ℕ) (n : ℕ) → ((k : ℕ) → k < n → f k ≡ g k) → sum_up f n ≡ sum_up g n
 unfolding sum_up
 sum_up_same f g zero h = refl
 sum_up_same f g (suc n) h = omega (arith, h n (le_refl (suc n)), sum_up_same f g n (λ k p. h k (omega arith)))
+
+pub sum_up_below : (f g : ℕ → ℕ) (n : ℕ) → ((k : ℕ) → k < n → f k ≤ g k) → sum_up f n ≤ sum_up g n
+unfolding sum_up
+sum_up_below f g zero h = zero-le
+sum_up_below f g (suc n) h = omega (arith, h n (le_refl (suc n)), sum_up_below f g n (λ k p. h k (omega arith)))
+
+pub sum_up_add : (f g : ℕ → ℕ) (n : ℕ) → sum_up (λ k. f k + g k) n ≡ sum_up f n + sum_up g n
+unfolding sum_up
+sum_up_add f g zero = refl
+sum_up_add f g (suc n) = omega (arith, sum_up_add f g n)
+
+pub sum_up_scaled : (c : ℕ) (f : ℕ → ℕ) (n : ℕ) → sum_up (λ k. c * f k) n ≡ c * sum_up f n
+unfolding sum_up
+sum_up_scaled c f zero = sym (mul-zero c)
+sum_up_scaled c f (suc n) = omega (arith, sum_up_scaled c f n, mul-add c (sum_up f n) (f n))
+
+-- one term changed
+pub sum_up_changed : (f g : ℕ → ℕ) (n i : ℕ) → i < n → ((k : ℕ) → (k ≡ i → ⊥) → f k ≡ g k) → sum_up f n + g i ≡ sum_up g n + f i
+unfolding sum_up
+sum_up_changed f g zero i h e = absurd (not-suc-le-zero h)
+sum_up_changed f g (suc n) i h e =
+    ⊎_elim (λ (q : i ≡ n). rw q (omega (arith, sum_up_same f g n (λ k p. e k (λ r. absurd (omega arith))))))
+    (λ (p : i < n). omega (arith, sum_up_changed f g n i p e, e n (λ r. absurd (omega arith))))
+    (eq-or-lt_of_le (le_of_suc-le-suc h))
 
 -- a sum of something of each element, as a sum over the places
 module _ {X : Type 0} (f : X → ℕ) where

@@ -2,6 +2,8 @@
 // the book then answers, in the form of the listing.
 #![tactic(auto)]
 
+ghost use Rattle.std.specs.Prelude.{◌≤◌, length, IfOk};
+
 mod replies; // replies.rt: the replies to a journal's calls
 
 use quantities::{CONSUMERS, PRODUCERS, UNITS};
@@ -9,10 +11,10 @@ use questions::{Adjustment, Offers, Signed, Totals};
 use replies::Replies;
 use state::{Book, Stage};
 use std::fmt;
-use std::io::{self, BufWriter, Read as _, Write};
+use std::io::{self, BufWriter, Write};
 
 // The bytes of a journal, at most.
-const MOST: u64 = 65_536;
+const MOST: usize = 65_536;
 
 // A number with a minus sign where it is below 0. The library prints nothing, and Display of another crate's type needs a type of one's own.
 #[derive(Clone, Copy, Debug, PartialEq, Eq)]
@@ -82,19 +84,39 @@ fn show_book<W: Write>(out: &mut W, book: &Book) -> io::Result<()> {
     }
 }
 
+// Reads until the space is full or the input ends; answers how many bytes.
+fn read_full<R: io::Read>(reader: &mut R, space: &mut [u8]) -> io::Result<usize>
+    ensures { IfOk result (λ count. count ≤ length space.new) }
+{
+    let mut count = 0;
+    while count < space.len() {
+        let more = reader.read(&mut space[count..])?;
+        if more == 0 {
+            break;
+        }
+        count += more;
+    }
+    Ok(count)
+}
+
 fn main(rt: HostRuntime) -> io::Result<()> {
-    let mut journal = Vec::new(rt.alloc());
-    rt.stdin().take(MOST).read_to_end(&mut journal)?;
+    let mut space = [0; MOST];
+    let size = read_full(&mut rt.stdin(), &mut space)?;
     let mut out = BufWriter::new(rt.alloc(), io::writer(&rt))?;
-    let mut replies = Replies::new(&journal);
-    let told: Vec<(usize, u32)> = replies.by_ref().collect(rt.alloc())?;
-    for (place, number) in &told {
+    let mut replies = Replies::new(&space[..size]);
+    let mut accepted: u64 = 0;
+    let mut refused: u64 = 0;
+    for (place, number) in replies.by_ref() {
         writeln!(out, "{place} {number}")?;
+        if number == 0 {
+            accepted = accepted.wrapping_add(1);
+        } else {
+            refused = refused.wrapping_add(1);
+        }
     }
     writeln!(out, "stop {} {}", replies.stop(), replies.place)?;
     show_book(&mut out, &replies.book)?;
-    let accepted = told.iter().filter(|(_, number)| *number == 0).count();
-    let refused = told.iter().filter(|(_, number)| *number != 0).count();
-    writeln!(out, "R {} {accepted} {refused}", told.len())?;
+    let read = accepted.wrapping_add(refused);
+    writeln!(out, "R {read} {accepted} {refused}")?;
     out.flush()
 }

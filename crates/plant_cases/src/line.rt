@@ -1,8 +1,31 @@
-// The lines of the worked examples, in decimal numbers with blanks between.
+// The lines of the worked examples, in decimal numbers with blanks between. Any bytes are lines.
 use plant::{Component, Components, Hours, Kw, Kwh, Minutes, Plant, Trial};
-use std::io;
+use std::alloc::{AllocError, Global};
 
-// A component of the unit, by its number. The program's own: it refuses other numbers, where gathering's takes what the table has tested.
+// The most numbers of a line: a test with its greatest count and more. Those behind them are passed over.
+const MOST: usize = 112;
+
+// The greatest number that another digit may follow, whatever the digit.
+const BEFORE_LAST_DIGIT: u32 = 429_496_728;
+
+// The numbers of a line. Each ends at the byte behind it, which may be any but a digit, so that one at the input's end is none.
+pub fn numbers_of(alloc: Global, line: &[u8]) -> Result<Vec<u32>, AllocError> {
+    let mut numbers = Vec::new(alloc);
+    let mut number = 0;
+    for byte in line {
+        if !byte.is_ascii_digit() {
+            if numbers.len() < MOST {
+                numbers.push(number)?;
+            }
+            number = 0;
+        } else if number <= BEFORE_LAST_DIGIT {
+            number = number * 10 + u32::from(*byte - b'0');
+        }
+    }
+    Ok(numbers)
+}
+
+// A component of the unit, by its number: any above 1 stands for the storage.
 #[derive(Clone, Copy, Debug, PartialEq, Eq)]
 pub enum Part {
     Set,
@@ -10,15 +33,12 @@ pub enum Part {
     Storage,
 }
 
-impl TryFrom<u32> for Part {
-    type Error = io::Error;
-
-    fn try_from(number: u32) -> io::Result<Part> {
+impl From<u32> for Part {
+    fn from(number: u32) -> Part {
         match number {
-            0 => Ok(Part::Set),
-            1 => Ok(Part::Generator),
-            2 => Ok(Part::Storage),
-            _ => Err(io::ErrorKind::InvalidData.into()),
+            0 => Part::Set,
+            1 => Part::Generator,
+            _ => Part::Storage,
         }
     }
 }
@@ -61,50 +81,49 @@ pub enum Line<'a> {
     Efficient(&'a [u32]),
 }
 
-impl<'a> TryFrom<&'a [u32]> for Line<'a> {
-    type Error = io::Error;
-
-    fn try_from(numbers: &'a [u32]) -> io::Result<Line<'a>> {
-        match numbers {
-            [0, given, pic] => Ok(Line::Unit {
-                cap: (*given != 0).then_some(Kw(*pic)),
-            }),
-            [1, part, ending, tc, count, length, readings @ ..] => Ok(Line::Test {
-                part: Part::try_from(*part)?,
+// A number that is not there counts as 0.
+impl<'a> From<&'a [u32]> for Line<'a> {
+    fn from(numbers: &'a [u32]) -> Line<'a> {
+        let number = |place: usize| numbers.get(place).copied().unwrap_or(0);
+        match number(0) {
+            0 => Line::Unit {
+                cap: (number(1) != 0).then_some(Kw(number(2))),
+            },
+            1 => Line::Test {
+                part: Part::from(number(1)),
                 trial: Trial {
-                    ending: *ending,
-                    tc: *tc,
-                    count: *count,
+                    ending: number(2),
+                    tc: number(3),
+                    count: number(4),
                 },
-                length: *length,
-                readings,
-            }),
-            [2, part, hd, hmp, hif, hed] => Ok(Line::Availability {
-                part: Part::try_from(*part)?,
+                length: number(5),
+                readings: numbers.get(6..).unwrap_or_default(),
+            },
+            2 => Line::Availability {
+                part: Part::from(number(1)),
                 minutes: Minutes {
-                    hd: *hd,
-                    hmp: *hmp,
-                    hif: *hif,
-                    hed: *hed,
+                    hd: number(2),
+                    hmp: number(3),
+                    hif: number(4),
+                    hed: number(5),
                 },
-            }),
-            [3, kind, report, ppr, e1, e2, cap, nhrm, nhmd, ndhmd] => Ok(Line::Offer {
+            },
+            3 => Line::Offer {
                 plant: Plant {
-                    kind: *kind,
-                    report: *report != 0,
-                    ppr: Kw(*ppr),
-                    e1: Kwh(*e1),
-                    e2: Kwh(*e2),
-                    cap: Kwh(*cap),
+                    kind: number(1),
+                    report: number(2) != 0,
+                    ppr: Kw(number(3)),
+                    e1: Kwh(number(4)),
+                    e2: Kwh(number(5)),
+                    cap: Kwh(number(6)),
                 },
                 hours: Hours {
-                    nhrm: *nhrm,
-                    nhmd: *nhmd,
-                    ndhmd: *ndhmd,
+                    nhrm: number(7),
+                    nhmd: number(8),
+                    ndhmd: number(9),
                 },
-            }),
-            [4, units @ ..] => Ok(Line::Efficient(units)),
-            _ => Err(io::ErrorKind::InvalidData.into()),
+            },
+            _ => Line::Efficient(numbers.get(1..).unwrap_or_default()),
         }
     }
 }

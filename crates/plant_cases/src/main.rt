@@ -9,15 +9,20 @@
 
 mod line; // line.rt: what a line asks for
 
-use line::Line;
+use line::{Line, numbers_of};
 use plant::{
     Component, Components, Kw, efficient_offers, firm_offer, fresh_components, maximum_power,
     set_availability, test,
 };
-use quantities::{Refusal, number_met};
+use quantities::{Refusal, UNITS, number_met};
 use std::alloc::Global;
-use std::array;
-use std::io::{self, BufWriter, ErrorKind, Write};
+use std::io::{self, BufWriter, Read, Write};
+
+// The most bytes that are read.
+const MOST_INPUT: u64 = 65_536;
+
+// The bytes of the readings of a test line; where there are fewer readings, zeros.
+const BYTES: usize = 424;
 
 // The unit that the lines are about.
 #[derive(Clone, Copy, Debug, PartialEq, Eq)]
@@ -60,12 +65,15 @@ fn answer<W: Write>(out: &mut W, alloc: Global, unit: &mut Unit, line: Line) -> 
             length,
             readings,
         } => {
-            let bytes = readings
+            let mut bytes = readings
                 .iter()
                 .flat_map(|reading| reading.to_le_bytes())
                 .collect::<Vec<u8>>(alloc)?;
-            // By `as`: std has no From from u32 to usize.
-            let lent = bytes.get(..length as usize).ok_or(ErrorKind::InvalidData)?;
+            bytes.resize(BYTES, 0)?;
+            // More bytes than there are, which no test is lent, are not answered. By `as`: std has no From from u32 to usize.
+            let Some(lent) = bytes.get(..length as usize) else {
+                return Ok(());
+            };
             let component = part.of(&mut unit.components);
             let tested = test(*component, unit.cap, trial, lent);
             *component = tested.unwrap_or(*component);
@@ -87,33 +95,32 @@ fn answer<W: Write>(out: &mut W, alloc: Global, unit: &mut Unit, line: Line) -> 
 
 // The chosen year and the efficient offers of units, of which flags and offer stand by turns; 0 and 0 of those that are not there.
 fn show_efficient<W: Write>(out: &mut W, units: &[u32]) -> io::Result<()> {
-    let pairs = units.as_chunks::<2>().0;
-    let answer = efficient_offers(
-        array::from_fn(|unit| pairs.get(unit).map_or(0, |pair| pair[0])),
-        array::from_fn(|unit| pairs.get(unit).map_or(0, |pair| pair[1])),
-    );
+    let mut flags = [0; UNITS];
+    let mut offers = [0; UNITS];
+    for ((flag, offer), pair) in flags.iter_mut().zip(&mut offers).zip(units.chunks(2)) {
+        *flag = pair.first().copied().unwrap_or(0);
+        *offer = pair.get(1).copied().unwrap_or(0);
+    }
+    let answer = efficient_offers(flags, offers);
     write!(out, "{}", answer.year)?;
-    for offer in answer.offers.iter().take(pairs.len()) {
+    for (offer, _) in answer.offers.iter().zip(units.chunks(2)) {
         write!(out, " {offer}")?;
     }
     writeln!(out)
 }
 
 fn main(rt: HostRuntime) -> io::Result<()> {
+    let mut input = Vec::new(rt.alloc());
+    rt.stdin().take(MOST_INPUT).read_to_end(&mut input)?;
     let mut out = BufWriter::new(rt.alloc(), io::writer(&rt))?;
     let mut unit = Unit::new(None);
-    for line in io::read_to_string(rt.alloc(), rt.stdin())?.lines() {
-        let numbers: Vec<u32> = line
-            .split_whitespace()
-            .map(|word| word
-                .parse::<u32>()
-                .map_err(|_| io::Error::from(ErrorKind::InvalidData)))
-            .try_collect(rt.alloc())?;
+    for line in input.split_inclusive(|byte| *byte == b'\n') {
+        let numbers = numbers_of(rt.alloc(), line)?;
         answer(
             &mut out,
             rt.alloc(),
             &mut unit,
-            Line::try_from(numbers.as_slice())?,
+            Line::from(numbers.as_slice()),
         )?;
     }
     out.flush()

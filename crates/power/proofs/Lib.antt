@@ -2,3 +2,4 @@
 pub mod Readings
 pub mod Quotients
 pub mod Accepted
+pub mod LeastCounts

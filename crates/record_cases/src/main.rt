@@ -2,31 +2,40 @@
 // start of each: what was read, the number of its call, and what the writer makes of it.
 #![tactic(auto)]
 
-ghost use Rattle.std.specs.Prelude.{length};
-ghost use Rattle.std.specs.Iterator.{at_most};
-
 use quantities::number_met;
 use record::{Call, Read, check_call};
-use std::alloc::Global;
 use std::fmt;
-use std::io::{self, BufWriter, Read as _, Write};
+use std::io::{self, BufReader, BufWriter, ErrorKind, Write};
 use table::fields_of;
 
-// The items of an input, up to the first that is cut short. An iterator is neither copied nor compared.
-#[derive(Drop)]
-struct Items<'a>(&'a [u8]);
+// The most bytes of an item, and of a record.
+const MOST_ITEM: usize = 4096;
 
-impl<'a> Iterator for Items<'a> {
-    type Item = &'a [u8];
-
-    ghost remaining = { λ s. at_most (length s.0.now) };
-
-    fn next(&mut self) -> Option<&'a [u8]> {
-        let (size, rest) = self.0.split_first_chunk::<2>()?;
-        let (item, behind) = rest.split_at_checked(u16::from_le_bytes(*size).into())?;
-        self.0 = behind;
-        Some(item)
+// Fills the space with input; whether there was enough of it.
+fn fill<R: io::Read>(input: &mut R, space: &mut [u8]) -> io::Result<bool> {
+    match input.read_exact(space) {
+        Ok(()) => Ok(true),
+        Err(error) if error.kind() == ErrorKind::UnexpectedEof => Ok(false),
+        Err(error) => Err(error),
     }
+}
+
+// The next item of the input, in the space that is lent for it; none where the input has ended or cuts it short, or where it is too long.
+fn next_item<'a, R: io::Read>(
+    input: &mut R,
+    space: &'a mut [u8; MOST_ITEM],
+) -> io::Result<Option<&'a [u8]>> {
+    let mut size = [0; 2];
+    if !fill(input, &mut size)? {
+        return Ok(None);
+    }
+    let Some(item) = space.get_mut(..u16::from_le_bytes(size).into()) else {
+        return Ok(None);
+    };
+    if !fill(input, item)? {
+        return Ok(None);
+    }
+    Ok(Some(item))
 }
 
 // Each byte as two hexadecimal digits. It is only printed.
@@ -59,17 +68,17 @@ fn show_written<W: Write>(
     out: &mut W,
     call: Call,
     readings: &[u8],
-    mut buffer: Vec<u8>,
+    buffer: &mut [u8],
 ) -> io::Result<()> {
-    match record::write(call, readings, &mut buffer) {
-        Ok(()) => writeln!(out, " {}", Hex(&buffer)),
+    match record::write(call, readings, buffer) {
+        Ok(()) => writeln!(out, " {}", Hex(buffer)),
         Err(refusal) => writeln!(out, " {}", u32::from(refusal)),
     }
 }
 
 // What stands at the start of an item: the mark and the size of a record, its fields, the number of its call and what the writer makes
-// of it; or why there is none.
-fn show<W: Write>(out: &mut W, alloc: Global, item: &[u8]) -> io::Result<()> {
+// of it in the space that is lent for it; or why there is none.
+fn show<W: Write>(out: &mut W, item: &[u8]) -> io::Result<()> {
     match record::read_at(item, 0) {
         Read::End => writeln!(out, "end"),
         Read::Record {
@@ -85,18 +94,24 @@ fn show<W: Write>(out: &mut W, alloc: Global, item: &[u8]) -> io::Result<()> {
             )?;
             show_fields(out, call)?;
             write!(out, " {}", number_met(check_call(call, readings)))?;
-            show_written(out, call, readings, vec![in alloc; 0; next]?)
+            let mut space = [0; MOST_ITEM];
+            let size = next.min(MOST_ITEM); // an item has no more
+            show_written(out, call, readings, &mut space[..size])
         }
         stop => writeln!(out, "stop {}", record::stop_number(stop)),
     }
 }
 
+// The items are counted, up to a number that no input uses up.
 fn main(rt: HostRuntime) -> io::Result<()> {
-    let mut input = Vec::new(rt.alloc());
-    rt.stdin().read_to_end(&mut input)?;
+    let mut input = BufReader::new(rt.alloc(), rt.reader())?;
     let mut out = BufWriter::new(rt.alloc(), io::writer(&rt))?;
-    for item in Items(&input) {
-        show(&mut out, rt.alloc(), item)?;
+    let mut space = [0; MOST_ITEM];
+    for _ in 0..u64::MAX {
+        let Some(item) = next_item(&mut input, &mut space)? else {
+            break;
+        };
+        show(&mut out, item)?;
     }
     out.flush()
 }

@@ -62,6 +62,13 @@ largest_is r h =
       first = λ j q. omega (arith, p.1, smaller r j q);
     }
 
+-- there is only one such place
+pub largest_only : (r : List ℕ) (k : ℕ) → Largest r k → k ≡ largest r
+largest_only r k h =
+    let o = largest_is r (omega (arith, h.within)) in
+    let a : ¬ (k < largest r) = λ p. absurd (omega (arith, o.first k p, h.most (largest r))) in
+    let b : ¬ (largest r < k) = λ p. absurd (omega (arith, h.first (largest r) p, o.most k)) in omega arith
+
 -- the greatest of all, found from the front on
 fold_max : (a : ℕ) (r : List ℕ) → fold max a r ≡ max a (greatest r)
 unfolding greatest

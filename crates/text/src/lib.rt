@@ -7,7 +7,9 @@ mod amounts; // amounts.rt: amounts in decimal digits, in columns, and in lines
 ghost use Rattle.std.specs.Prelude.{◌≡◌, List, [], ◌∷◌, ◌++◌, ℕ, ◌+◌, ◌*◌, ◌<◌, ◌≤◌, length, take};
 ghost use Rattle.text.specs.Text.{joined};
 
-pub use amounts::{Amount, LONGEST_AMOUNT, LONGEST_DECIMAL, LONGEST_LINE, decimal, line};
+pub use amounts::{
+    Amount, LINE_AMOUNTS, LONGEST_AMOUNT, LONGEST_DECIMAL, LONGEST_LINE, decimal, line,
+};
 use std::marker::Model;
 
 // A text of at most N bytes, which lie in the value itself. It has no derived equality, which would compare the bytes behind the text too.

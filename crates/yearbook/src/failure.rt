@@ -1,6 +1,5 @@
 // Why the program ends before it has printed what was asked for, and what it says then.
-use std::fmt;
-use std::io::{self, Write};
+use std::io::{self, ErrorKind, Write};
 
 // How the program is called.
 pub const USAGE: &str = "usage: yearbook [replies | run | page | narrow] [FILE] | yearbook help\n";
@@ -12,7 +11,15 @@ const MOST_WORDS: usize = 128;
 #[derive(Clone, Copy, Debug, PartialEq, Eq)]
 pub struct ReaderLeft;
 
-// Not compared, nor are `Words` below: io::Error has no equality.
+// Whether a text was written to standard error is told to nobody, but that its reader has left.
+pub fn unless_left(written: io::Result<()>) -> Result<(), ReaderLeft> {
+    match written {
+        Err(error) if error.kind() == ErrorKind::BrokenPipe => Err(ReaderLeft),
+        _ => Ok(()),
+    }
+}
+
+// Not compared: io::Error has no equality.
 #[derive(Clone, Copy)]
 pub enum Failure<'a> {
     ReaderLeft,
@@ -32,46 +39,48 @@ impl From<ReaderLeft> for Failure<'_> {
     }
 }
 
-// An error in the system's words, without its number.
-#[derive(Clone, Copy)]
-struct Words(io::Error);
-
-impl fmt::Display for Words {
-    fn fmt<W: fmt::Write>(&self, f: &mut fmt::Formatter<W>) -> fmt::Result {
-        let mut space = [0u8; MOST_WORDS];
-        let mut rest: &mut [u8] = &mut space;
-        let _ = write!(rest, "{}", self.0);
-        let size = MOST_WORDS.saturating_sub(rest.len());
-        let text = str::from_utf8(&space[..size]).unwrap_or_default();
-        let words = text
-            .split_once(" (os error ")
-            .map_or(text, |(words, _)| words);
-        f.write_str(words)
-    }
-}
-
 impl Failure<'_> {
     // Says what failed, and why; nothing where the reader has left. No Display: a name is bytes and need be no UTF-8.
-    pub fn say<W: Write>(&self, out: &mut W) -> io::Result<()> {
+    pub fn say<W: Write>(&self, out: &mut W) -> Result<(), ReaderLeft> {
         match self {
             Failure::ReaderLeft => Ok(()),
             Failure::System { name, error } => say_error(out, name, *error),
             Failure::NotOpened { path, error } => {
                 say_error(out, path, *error)?;
-                out.write_all(USAGE.as_bytes())
+                say_piece(out, USAGE.as_bytes())
             }
             Failure::UnknownWord(word) => {
-                out.write_all(b"yearbook: ")?;
-                out.write_all(word)?;
-                write!(out, ": unknown word\n{USAGE}")
+                say_piece(out, b"yearbook: ")?;
+                say_piece(out, word)?;
+                say_piece(out, b": unknown word\n")?;
+                say_piece(out, USAGE.as_bytes())
             }
-            Failure::TooManyArguments => write!(out, "yearbook: too many arguments\n{USAGE}"),
+            Failure::TooManyArguments => {
+                say_piece(out, b"yearbook: too many arguments\n")?;
+                say_piece(out, USAGE.as_bytes())
+            }
         }
     }
 }
 
-fn say_error<W: Write>(out: &mut W, name: &[u8], error: io::Error) -> io::Result<()> {
-    out.write_all(b"yearbook: ")?;
-    out.write_all(name)?;
-    writeln!(out, ": {}", Words(error))
+// A piece of what is said, whatever became of those before it.
+fn say_piece<W: Write>(out: &mut W, piece: &[u8]) -> Result<(), ReaderLeft> {
+    unless_left(out.write_all(piece))
+}
+
+// The name, and the error in the system's words, without its number.
+fn say_error<W: Write>(out: &mut W, name: &[u8], error: io::Error) -> Result<(), ReaderLeft> {
+    let mut space = [0u8; MOST_WORDS];
+    let mut rest: &mut [u8] = &mut space;
+    let _ = write!(rest, "{error}");
+    let size = MOST_WORDS.saturating_sub(rest.len());
+    let text = str::from_utf8(&space[..size]).unwrap_or_default();
+    let words = text
+        .split_once(" (os error ")
+        .map_or(text, |(words, _)| words);
+    say_piece(out, b"yearbook: ")?;
+    say_piece(out, name)?;
+    say_piece(out, b": ")?;
+    say_piece(out, words.as_bytes())?;
+    say_piece(out, b"\n")
 }

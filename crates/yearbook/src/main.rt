@@ -3,11 +3,13 @@
 
 mod arguments; // arguments.rt: what the program is asked for
 mod failure; // failure.rt: why the program ends before its time
+mod input; // input.rt: the input, read whole
 mod output; // output.rt: what goes to standard output and standard error
 
 use arguments::{Asked, MOST_ARGUMENT, Request};
 use failure::{Failure, USAGE};
-use output::{print, tell, unless_left};
+use input::read_whole;
+use output::{print, tell};
 use std::fs::File;
 use std::io::{self, Read};
 use std::process::ExitCode;
@@ -32,19 +34,18 @@ Where the program ends by itself, standard error is empty exactly when all was r
 ";
 
 // What is asked for, of a reader that the name stands for. One byte more than is taken is read, so that longer input is known.
-// By `as`: std has no From from usize to u64.
 fn answer_reader<'a, R: Read + Drop>(
     rt: &HostRuntime,
     asked: Asked,
-    reader: R,
+    mut reader: R,
     name: &'a [u8],
 ) -> Result<(), Failure<'a>> {
-    let mut input = Vec::new(rt.alloc());
-    reader
-        .take(listing::MOST_INPUT as u64 + 1)
-        .read_to_end(&mut input)
-        .map_err(|error| Failure::System { name, error })?;
-    tell(rt, asked, &input)
+    let mut space = [0; listing::MOST_INPUT + 1];
+    let count = read_whole(&mut reader, &mut space).map_err(|error| Failure::System {
+        name,
+        error,
+    })?;
+    tell(rt, asked, &space[..count])
 }
 
 // The file, opened for reading. A name that is no UTF-8 opens none.
@@ -88,7 +89,7 @@ fn main(rt: HostRuntime) -> ExitCode {
     let is_left = match answered {
         Ok(()) => false,
         Err(Failure::ReaderLeft) => true,
-        Err(failure) => unless_left(failure.say(&mut rt.stderr())).is_err(),
+        Err(failure) => failure.say(&mut rt.stderr()).is_err(),
     };
     if is_left {
         ExitCode::from(BROKEN_PIPE)
