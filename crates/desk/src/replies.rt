@@ -7,7 +7,7 @@ use listing::MOST_INPUT;
 use quantities::number_met;
 use record::{Call, Read, read_at, readings_of, stop_number};
 use text::{LONGEST_DECIMAL, Text, decimal};
-use words::{LONGEST_CALL, LONGEST_SAID, call_text, said};
+use words::{LONGEST_CALL, LONGEST_SAID, push_call, said};
 
 // The room for a line, whatever the record: a place, a call, a number in words, and 16 bytes for what stands between or ends the journal.
 pub const LONGEST_REPLY: usize = LONGEST_DECIMAL + LONGEST_CALL + LONGEST_SAID + 16;
@@ -49,7 +49,7 @@ fn reply_line(place: usize, call: Call, readings: &[u8], number: u32) -> Text<LO
     let mut line = Text::new();
     line.push_text(&decimal(place as u64));
     line.push(b' ');
-    line.push_text(&call_text(call, readings));
+    push_call(call, readings, &mut line);
     line.push_str(": ");
     line.push_text(&said(number));
     line

@@ -1,5 +1,5 @@
 // Amounts in decimal digits, in columns, and in lines.
-ghost use Rattle.std.specs.Prelude.{◌≡◌, ◌++◌, ◌+◌, ◌≤◌, length};
+ghost use Rattle.std.specs.Prelude.{◌≡◌, ◌++◌, ◌+◌, ◌≤◌, length, take};
 ghost use Rattle.text.specs.Text.{plain, decimal, amount_of, line_of};
 ghost use Rattle.text.specs.Columns.{column};
 
@@ -62,11 +62,12 @@ impl Amount {
         ensures room { length line.new ≤ length line.old + LONGEST_AMOUNT }
     {
         let below = self.plus < self.minus;
+        let size = self.plus.abs_diff(self.minus);
         if below {
             line.push(b'-');
-            push_decimal(self.plus.abs_diff(self.minus), line);
+            line.push_decimal(size);
         } else {
-            push_decimal(self.plus.abs_diff(self.minus), line);
+            line.push_decimal(size);
         }
     }
 
@@ -83,28 +84,32 @@ impl Amount {
     }
 }
 
-// The decimal digits of a number. Not the Display of u64, whose law ends at 64 digits, as the definition's does not.
-#[tactic(auto, using(crate::proofs::Digits::decimal_digit, crate::proofs::Digits::decimal_more, crate::proofs::Digits::digits_before_last))]
+// The decimal digits of a number.
+#[tactic(auto, using(crate::proofs::Digits::digits_short))]
 pub fn decimal(x: u64) -> Text<LONGEST_DECIMAL>
     ensures { result ≡ decimal x }
 {
-    let mut digits = if x < 10 { Text::new() } else { decimal(x / 10) };
-    digits.push(b'0' + (x % 10) as u8);
+    let mut digits = Text::new();
+    digits.push_decimal(x);
     digits
 }
 
-// The same behind what a line has so far: a listing has some two thousand numbers, and a bar of speed binds it.
+// The same at the front of a buffer, and how many. Not the Display of u64, whose law ends at 64 digits, as the definition's does not.
+// Into a buffer: a listing has some two thousand numbers, and a bar of speed binds it.
 #[tactic(auto, using(crate::proofs::Digits::decimal_digit, crate::proofs::Digits::decimal_more, crate::proofs::Digits::length_digit, crate::proofs::Digits::length_more))]
-fn push_decimal(x: u64, line: &mut Text<LONGEST_LINE>)
-    requires { length line.old + length (decimal x) ≤ LONGEST_LINE }
-    ensures { line.new ≡ line.old ++ decimal x }
+pub(crate) fn put_decimal(x: u64, out: &mut [u8]) -> usize
+    requires { length (decimal x) ≤ length out.old }
+    ensures digits { take result out.new ≡ decimal x }
+    ensures count { result ≡ length (decimal x) }
+    ensures length { length out.new ≡ length out.old }
 {
     if x < 10 {
-        line.push(b'0' + x as u8);
-    } else {
-        push_decimal(x / 10, line);
-        line.push(b'0' + (x % 10) as u8);
+        out[0] = b'0' + x as u8;
+        return 1;
     }
+    let last = put_decimal(x / 10, out);
+    out[last] = b'0' + (x % 10) as u8;
+    last + 1
 }
 
 // A line: its letter, the amounts, each behind a blank, and a line feed.

@@ -5,8 +5,9 @@
 mod amounts; // amounts.rt: amounts in decimal digits, in columns, and in lines
 
 ghost use Rattle.std.specs.Prelude.{◌≡◌, List, [], ◌∷◌, ◌++◌, ℕ, ◌+◌, ◌*◌, ◌<◌, ◌≤◌, length, take};
-ghost use Rattle.text.specs.Text.{joined};
+ghost use Rattle.text.specs.Text.{decimal, joined};
 
+use amounts::put_decimal;
 pub use amounts::{
     Amount, LINE_AMOUNTS, LONGEST_AMOUNT, LONGEST_DECIMAL, LONGEST_LINE, decimal, line,
 };
@@ -94,6 +95,15 @@ impl<const N: usize> Text<N> {
         ensures room { length self.new ≤ length self.old + M }
     {
         self.push_bytes(other.as_bytes());
+    }
+
+    // The decimal digits of a number.
+    pub fn push_decimal(&mut self, x: u64)
+        requires { length self.old + length (decimal x) ≤ N }
+        ensures { self.new ≡ self.old ++ decimal x }
+    {
+        let all = &mut self.bytes[..];
+        self.len += put_decimal(x, &mut all[self.len..]);
     }
 
     // The texts of 0, 1, .., one behind the other and behind the text, where there is room for the longest of each.

@@ -5,5 +5,5 @@
 mod calls; // calls.rt: a call in words
 mod numbers; // numbers.rt: the numbered replies in words: what each means, and when it is met
 
-pub use calls::{LONGEST_CALL, call_text};
+pub use calls::{LONGEST_CALL, call_text, push_call};
 pub use numbers::{LONGEST_AT_PLACE, LONGEST_SAID, at_place, condition_line, said};
